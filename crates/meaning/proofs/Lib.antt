@@ -1,0 +1,3 @@
+pub mod Tests
+pub mod Vectors
+pub mod Papers

@@ -1,0 +1,13 @@
+pub mod Tests
+pub mod Order
+pub mod Operations
+pub mod Meaning
+pub mod Rows
+pub mod Arrival
+pub mod Settling
+pub mod Table
+pub mod Questions
+pub mod Refusals
+pub mod Calls
+pub mod History
+pub mod Papers
