@@ -1,3 +1,6 @@
 pub mod Tests
 pub mod Vectors
+pub mod Ascending
+pub mod OneValue
+pub mod RowLaws
 pub mod Papers
