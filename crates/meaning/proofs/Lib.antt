@@ -3,4 +3,5 @@ pub mod Vectors
 pub mod Ascending
 pub mod OneValue
 pub mod RowLaws
+pub mod Acceptance
 pub mod Papers

@@ -90,4 +90,3 @@ pub record Arrived (k o v : ℕ) (puts : Operation → Bool) (t : Operation) (ro
   pub new : puts t ≡ true → List·Memᴰ (unsettledRow t) rows′
   pub kept : (r : Row) → List·Memᴰ r rows → on o v (r .operation) ≡ true → gone k o v t r ≡ false → List·Memᴰ r rows′
   pub back : (r : Row) → List·Memᴰ r rows′ → on o v (r .operation) ≡ true → ((r ≡ unsettledRow t) × (puts t ≡ true)) ⊎ (List·Memᴰ r rows × (gone k o v t r ≡ false))
-

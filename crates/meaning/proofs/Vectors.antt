@@ -183,4 +183,3 @@ others-raised w (suc k) (suc s) (x ∷ l) q {y} (List·Memᴰ·tail m) = let r =
 -- the least rises where the clock and one vector rise
 pub low-up : (u d d′ w : List ℕ) (k s : ℕ) (l : List (List ℕ)) → atMost u d′ ≡ true → atMost (getD l s []) w ≡ true → atMost u (lowOf d (othersOf k l)) ≡ true → atMost u (lowOf d′ (othersOf k (set l s w))) ≡ true
 low-up u d d′ w k s l p q h = low-i u d′ (othersOf k (set l s w)) p (λ y m. let r = others-raised w k s l q m in at-most-trans u (r .0) y (low-under u d (othersOf k l) h (r .1)) (r .2))
-

@@ -76,18 +76,18 @@ removesStand kind = eqb kind disableWinsFlag || eqb kind removeWinsSet
 -- The codes of each kind, as the table of the nine kinds has them; no code is known for another kind.
 unfoldable pub codesOf : ℕ → List ℕ
 codesOf kind = getD (
-  []
-  ∷ (adds ∷ [])
-  ∷ (adds ∷ removes ∷ [])
-  ∷ (adds ∷ [])
-  ∷ (adds ∷ removes ∷ [])
-  ∷ (adds ∷ removes ∷ [])
-  ∷ (adds ∷ removes ∷ [])
-  ∷ (adds ∷ clears ∷ [])
-  ∷ (adds ∷ removes ∷ clears ∷ [])
-  ∷ (adds ∷ removes ∷ clears ∷ [])
-  ∷ []
-) kind []
+    []
+    ∷ (adds ∷ [])
+    ∷ (adds ∷ removes ∷ [])
+    ∷ (adds ∷ [])
+    ∷ (adds ∷ removes ∷ [])
+    ∷ (adds ∷ removes ∷ [])
+    ∷ (adds ∷ removes ∷ [])
+    ∷ (adds ∷ clears ∷ [])
+    ∷ (adds ∷ removes ∷ clears ∷ [])
+    ∷ (adds ∷ removes ∷ clears ∷ [])
+    ∷ []
+    ) kind []
 
 unfoldable pub codeAllowed : ℕ → ℕ → Bool
 codeAllowed kind code = any (eqb code) (codesOf kind)
