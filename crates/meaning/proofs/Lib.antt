@@ -3,5 +3,10 @@ pub mod Vectors
 pub mod Ascending
 pub mod OneValue
 pub mod RowLaws
+pub mod KindGroups
+pub mod Survival
+pub mod Standing
+pub mod Steps
+pub mod Keeping
 pub mod Acceptance
 pub mod Papers
