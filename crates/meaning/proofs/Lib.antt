@@ -9,4 +9,8 @@ pub mod Standing
 pub mod Steps
 pub mod Keeping
 pub mod Acceptance
+pub mod TableFacts
+pub mod Arriving
+pub mod Totals
+pub mod Histories
 pub mod Papers
