@@ -24,6 +24,7 @@ use Rattle.meaning.proofs.TableFacts.{Facts, facts}
 pub record Accepts (table : Table) (u : Operation) (last′ : List Vector) : Type 0 where
   pub declared : u .object < length (table .header .kinds)
   pub code-allowed : codeAllowed (kindIn (table .header) (u .object)) (u .code) ≡ true
+  pub sender-in : u .sender < table .header .size
   pub next : getD (u .vector) (u .sender) 0 ≡ suc (getD (table .clock) (u .sender) 0)
   pub under : atMost (u .vector) (raised (table .clock) (u .sender)) ≡ true
   pub reach : (x : Vector) → atMost x (table .clock) ≡ true → atMost x (low table) ≡ true → atMost x (u .vector) ≡ true
@@ -41,6 +42,7 @@ frame-accepts table frame is e =
     record {
       declared = a .declared-object;
       code-allowed = and-left (codeAllowed kind (u .code)) (valueAllowed kind (u .code) (u .value)) (a .allowed-operation);
+      sender-in = a .sender-in;
       next = next-number table frame (F .clock-length) a;
       under = a .in-time;
       reach = λ x _ h. at-most-trans x (getD (table .last) (u .sender) []) (u .vector) (low-under x (table .clock) (othersOf (table .header .own) (table .last)) h here) (a .not-falling);
@@ -59,6 +61,7 @@ local-accepts table local is e =
     record {
       declared = a .declared-object;
       code-allowed = and-left (codeAllowed kind (u .code)) (valueAllowed kind (u .code) (u .value)) (a .allowed-operation);
+      sender-in = F .own-in;
       next = raised-at (table .clock) own (let l = F .clock-length in let h = F .own-in in omega arith);
       under = at-most-refl (raised (table .clock) own);
       reach = λ x c _. up x c;

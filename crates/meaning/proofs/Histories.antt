@@ -8,6 +8,7 @@ use native.Mathlib.Omega.{arith}
 use lib.Dec.{leb, ltb, eqb}
 use lib.IntN.{ℤ, pos}
 use lib.ListN.{getD, set, length, replicate}
+use lib.Seq.{getD-set-other}
 use borrow.Author.Tests.{eqb-true, eqb-false}
 use Rattle.meaning.specs.Tests.{any}
 use Rattle.meaning.specs.Order.{Vector, atMost, raised}
@@ -16,11 +17,11 @@ use Rattle.meaning.specs.Meaning.{on, addOf, removeOf, totalOf, inGrowSe
 use Rattle.meaning.specs.Rows.{Row, unsettledRow, removeRowsCount, isInByRows}
 use Rattle.meaning.specs.Arrival.{concerns, rowBefore, takenBy, getsRow, rowsAfter}
 use Rattle.meaning.specs.Settling.{stableBy, stepAt, settledRows}
-use Rattle.meaning.specs.Table.{Header, Table, kindIn, low, stable, opened, isTable}
+use Rattle.meaning.specs.Table.{Header, Table, kindIn, low, stable, zeros, opened, isTable}
 use Rattle.meaning.specs.Calls.{withRows, afterArrival, rowsSettled}
 use Rattle.meaning.specs.History.{Event, Station, after}
 use Rattle.meaning.proofs.Tests.{cases, clash, and-left, on-cons}
-use Rattle.meaning.proofs.Vectors.{at-most-trans, at-most-raised}
+use Rattle.meaning.proofs.Vectors.{at-most-trans, at-most-raised, raised-at}
 use Rattle.meaning.proofs.OneValue.{gone, touches, concerns-touches, Arrived, Fresh, add-on}
 use Rattle.meaning.proofs.RowLaws.{on-eq, Tagged, tagged-rows, arrival-back, arrival-kept, arrival-new, concerns-object, other-back, other-kept, steps-elim}
 use Rattle.meaning.proofs.KindGroups.{Keeper, Survivor, Stander, Group, counting, keeping, surviving, standing, at-keeper, at-survivor, at-stander, survivor-tagged, stander-tagged, survivor-stands-not, stander-stands, stander-no-register, survivor-gets, stander-gets, survivor-law}
@@ -100,6 +101,7 @@ cell-steps table accepted a b w due o v C =
 pub record Faithful (station : Station) : Type 0 where
   pub bound : (x : Operation) → List·Memᴰ x (station .accepted) → atMost (x .vector) (station .table .clock) ≡ true
   pub once : Once (station .accepted)
+  pub heard : (s : ℕ) → (getD (station .table .clock) s 0 ≡ 0) ⊎ ((x : Operation) × List·Memᴰ x (station .accepted) × (getD (x .vector) s 0 ≡ getD (station .table .clock) s 0))
   pub totals-right : (o : ℕ) → isCounter (kindIn (station .table .header) o) ≡ true → getD (station .table .totals) o (pos 0) ≡ totalOf o (station .accepted)
   pub cells : (o v : ℕ) → Cell (kindIn (station .table .header) o) o v (stable (station .table)) (station .accepted) (station .table .rows)
 
@@ -111,6 +113,10 @@ faithful-arrived station u last′ is ac G =
     record {
       bound = on-cons (λ (x : Operation). atMost (x .vector) (raised (table .clock) (u .sender)) ≡ true) (ac .under) (λ x m. at-most-trans (x .vector) (table .clock) (raised (table .clock) (u .sender)) (G .bound x m) (at-most-raised (table .clock) (u .sender)));
       once = (unseen table (station .accepted) u last′ (G .bound) ac, G .once);
+      heard = λ s. cases (eqb s (u .sender))
+          (λ q. let e = eqb-true s (u .sender) q in inr (u, List·Memᴰ·head refl, rw e (ac .next ∙ sym (raised-at (table .clock) (u .sender) (let l = F .clock-length in let h = ac .sender-in in omega arith)))))
+          (λ q. let same = getD-set-other (table .clock) (u .sender) s (suc (getD (table .clock) (u .sender) 0)) 0 (eqb-false s (u .sender) q) in
+          ⊎-elim (λ z. inl (same ∙ z)) (λ x. inr (x .0, List·Memᴰ·tail (x .1), x .2 ∙ sym same)) (G .heard s));
       totals-right = λ o h. totals-after (kindIn (table .header)) u (table .totals) (station .accepted) o (let d = ac .declared in let l = F .totals-length in omega arith) (ac .code-allowed) h (G .totals-right o h);
       cells = λ o v. cell-arrives table (station .accepted) u last′ (fresh table (station .accepted) u last′ (G .bound) ac) ac o v (G .cells o v);
     }
@@ -122,6 +128,7 @@ faithful-calmed station limit G =
     record {
       bound = G .bound;
       once = G .once;
+      heard = G .heard;
       totals-right = G .totals-right;
       cells = λ o v. steps-elim (λ (rows : List Row). Cell (kindIn (table .header) o) o v (stable table) (station .accepted) rows) (kindIn (table .header)) (low table) (λ a b w due C. cell-steps table (station .accepted) a b w due o v C) limit (table .rows) (G .cells o v);
     }
@@ -130,10 +137,11 @@ pub faithful-after : (event : Event) (station : Station) → isTable (station .t
 faithful-after event station is G = event-elim Faithful event station is G (λ u last′ ac. faithful-arrived station u last′ is ac G) (λ limit. faithful-calmed station limit G)
 
 pub faithful-opened : (header : Header) → Faithful (record { table = opened header; accepted = [] })
-unfolding opened totalOf
+unfolding opened zeros totalOf
 faithful-opened header = record {
   bound = λ x m. elim m [ ];
   once = tt;
+  heard = λ s. inl (none (header .size) s);
   totals-right = λ o _. nothing (length (header .kinds)) o;
   cells = λ o v. record { keeps = λ _. KP.empty-inv (kindIn header o) o v; survives = λ _. AW.empty-inv (kindIn header o) o v (stable (opened header)); stands = λ _. RW.empty-inv o v (stable (opened header)) };
 }
@@ -142,6 +150,11 @@ faithful-opened header = record {
     nothing zero o = refl
     nothing (suc n) zero = refl
     nothing (suc n) (suc o) = nothing n o
+
+    none : (n s : ℕ) → _≡_ {A = ℕ} (getD (replicate n 0) s 0) 0
+    none zero s = refl
+    none (suc n) zero = refl
+    none (suc n) (suc s) = none n s
 
 -- the answer at one value, in kinds 3 to 9
 and-true : (a : Bool) → (a && true) ≡ a

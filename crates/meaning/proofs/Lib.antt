@@ -13,4 +13,6 @@ pub mod TableFacts
 pub mod Arriving
 pub mod Totals
 pub mod Histories
+pub mod Lists
+pub mod Asking
 pub mod Papers
