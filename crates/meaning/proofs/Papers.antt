@@ -14,7 +14,7 @@ use Rattle.meaning.specs.Questions.{fits, byRows, byDefinition, answerFr
 use Rattle.meaning.specs.Refusals.{wellShaped, declared, operationAllowed, inTime, frameRefusals, roomFor, arrivalRefusals, refusalOfFrame, issuedBy, localRefusals, refusalOfLocal, settlingRefusals, refusalOfSettling, wellAsked, listTooLong, questionRefusals}
 use Rattle.meaning.specs.Calls.{afterArrival, outcome, receive, issue, rowsSettled, steps, settle, replyOf, askOf, ask, meant}
 use Rattle.meaning.specs.History.{afterOutcome, afterSettling, after, afterAll, reached}
-use Rattle.meaning.specs.Papers.{Paper, Result, resultOf, saidOf, papers}
+use Rattle.meaning.specs.Papers.{Paper, Result, resultOf, saidOf, papers, session, sessionSaid}
 
 pub all-right : map resultOf papers ≡ map saidOf papers
 unfolding resultOf saidOf papers between beforeByVector numberOf before isCounter isFlag removesStand codesOf codeAllowed valueAllowed allowed of on addOf removeOf clearOf ends survives stands inGrowSet inTwoPhaseSet inBySurvival inByStanding isIn totalOf valuesNamed listOf countOf keyOf lowerRow removeRowsCount isInByRows listByRows countByRows concerns rowBefore takenBy getsRow withRow taggedArrival sameValue settledArrival rowsAfter amountOf totalsAfter stableBy due addBeside removeBeside becomesSettled droppedWith leftBy stepAt kindIn low stable zeros opened fits byRows byDefinition answerFrom wellShaped declared operationAllowed inTime frameRefusals roomFor arrivalRefusals refusalOfFrame issuedBy localRefusals refusalOfLocal settlingRefusals refusalOfSettling wellAsked listTooLong questionRefusals afterArrival outcome receive issue rowsSettled steps settle replyOf askOf ask meant afterOutcome afterSettling after afterAll reached
@@ -34,3 +34,8 @@ map-at f g (y ∷ l) e x m = ⊎-elim (λ q. ap f q ∙ heads ∙ sym (ap g q)) 
 -- "P1 to P11 are proved together": each line of the table comes to what the document says of it.
 pub each-right : (paper : Paper) → List·Memᴰ paper papers → resultOf paper ≡ saidOf paper
 each-right paper m = map-at resultOf saidOf papers all-right paper m
+
+-- "The whole of one session, input then output": refusals, answers, the issued frame, the step count and the table of its saved form.
+pub session-right : session ≡ sessionSaid
+unfolding session sessionSaid between beforeByVector numberOf before isCounter isFlag removesStand codesOf codeAllowed valueAllowed allowed of on addOf removeOf clearOf ends survives stands inGrowSet inTwoPhaseSet inBySurvival inByStanding isIn totalOf valuesNamed listOf countOf keyOf lowerRow removeRowsCount isInByRows listByRows countByRows concerns rowBefore takenBy getsRow withRow taggedArrival sameValue settledArrival rowsAfter amountOf totalsAfter stableBy due addBeside removeBeside becomesSettled droppedWith leftBy stepAt kindIn low stable zeros opened fits byRows byDefinition answerFrom wellShaped declared operationAllowed inTime frameRefusals roomFor arrivalRefusals refusalOfFrame issuedBy localRefusals refusalOfLocal settlingRefusals refusalOfSettling wellAsked listTooLong questionRefusals afterArrival outcome receive issue rowsSettled steps settle replyOf askOf ask meant afterOutcome afterSettling after afterAll reached
+session-right = refl

@@ -2,14 +2,15 @@
 use mathlib.Core.Bool.{Bool, true, false}
 use mathlib.Core.List.{List, [], _∷_, _++_}
 use Prim.Native.Nat.{ℕ, suc}
+use lib.IntN.{pos}
 use lib.ListN.{length}
 use Rattle.meaning.specs.Order.{Vector, raised}
 use Rattle.meaning.specs.Operations.{Operation, adds, removes, clears, growCounter, twoPhaseSet, enableWinsFlag, disableWinsFlag, multiValueRegister, addWinsSet, removeWinsSet}
-use Rattle.meaning.specs.Rows.{unsettledCount}
+use Rattle.meaning.specs.Rows.{unsettledRow, unsettledCount}
 use Rattle.meaning.specs.Table.{Header, Table, low, stable}
 use Rattle.meaning.specs.Questions.{Asked, Answer, flag, list, count, holds, asksFlag, asksList, asksCount, asksHolds}
-use Rattle.meaning.specs.Refusals.{Frame, Local, greatestLimit}
-use Rattle.meaning.specs.Calls.{Reply, answered, ask, meant}
+use Rattle.meaning.specs.Refusals.{Frame, Local, refusalOfFrame, refusalOfLocal, greatestLimit}
+use Rattle.meaning.specs.Calls.{Reply, answered, steps, ask, meant}
 use Rattle.meaning.specs.History.{Event, receives, issues, settles, Station, afterAll, reached}
 
 -- A line of the table. A roll: the kind of object 0, what happens to it, the question and its answer. A low: a table, its Low, and an
@@ -101,3 +102,58 @@ papers =
     ∷ roll disableWinsFlag (ours adds 0 ∷ theirs removes 0 (pair 0 1) ∷ []) (asking asksFlag 0) (flag false)
     ∷ lows threeStations (4 ∷ 3 ∷ 2 ∷ []) (tagged (4 ∷ 3 ∷ 2 ∷ [])) (tagged (4 ∷ 4 ∷ 2 ∷ []))
     ∷ []
+
+-- The worked session, up to its saved form: N = 2, own 0, capacity 4, one add-wins set.
+pub record Session : Type 0 where
+  pub refusals : List ℕ
+  pub answers : List Reply
+  pub stepsReported : ℕ
+  pub accepted : List Operation
+  pub table : Table
+
+abbrev pub sessionHeader : Header
+sessionHeader = record { size = 2; own = 0; capacity = 4; kinds = addWinsSet ∷ [] }
+
+-- "21000100000007", "2002010001000000070000000000000001" and "2002010002000000070000000000000002".
+abbrev pub sessionLocal : Local
+sessionLocal = record { object = 0; code = adds; value = pupil }
+
+abbrev pub sessionAdd : Frame
+sessionAdd = frameOf 0 adds pupil (pair 0 1)
+
+abbrev pub sessionRemove : Frame
+sessionRemove = frameOf 0 removes pupil (pair 0 2)
+
+unfoldable pub session : Session
+session =
+    let issued = reached sessionHeader (issues sessionLocal ∷ []) in
+    let added = afterAll (receives sessionAdd ∷ []) issued in
+    let removed = afterAll (receives sessionRemove ∷ []) added in
+    let settled = afterAll (settles 10 ∷ []) removed in
+    let again = afterAll (receives sessionRemove ∷ []) settled in
+    record {
+      refusals = refusalOfLocal (reached sessionHeader [] .table) sessionLocal ∷ refusalOfFrame (issued .table) sessionAdd ∷ refusalOfFrame (added .table) sessionRemove ∷ refusalOfFrame (settled .table) sessionRemove ∷ [];
+      answers = ask (added .table) room (asking asksCount 0) ∷ ask (removed .table) room (asking asksList 0) ∷ [];
+      stepsReported = steps (removed .table) 10;
+      accepted = again .accepted;
+      table = again .table;
+    }
+
+abbrev pub issuedThere : Operation
+issuedThere = record { object = 0; code = adds; value = pupil; sender = 0; vector = pair 1 0 }
+
+-- What the session prints: "00", the issued frame, "00", "000001", "00", "00000100000007", "000000", "ff05", and the saved form.
+unfoldable pub sessionSaid : Session
+sessionSaid = record {
+  refusals = 0 ∷ 0 ∷ 0 ∷ 5 ∷ [];
+  answers = answered (count 1) ∷ answered (list (pupil ∷ [])) ∷ [];
+  stepsReported = 0;
+  accepted = sessionRemove .operation ∷ sessionAdd .operation ∷ issuedThere ∷ [];
+  table = record {
+    header = sessionHeader;
+    clock = pair 1 2;
+    last = pair 0 0 ∷ pair 0 2 ∷ [];
+    totals = pos 0 ∷ [];
+    rows = unsettledRow issuedThere ∷ [];
+  };
+}
