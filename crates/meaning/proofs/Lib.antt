@@ -1,3 +1,4 @@
+pub mod Papers
 pub mod Tests
 pub mod Vectors
 pub mod Ascending
@@ -15,4 +16,3 @@ pub mod Totals
 pub mod Histories
 pub mod Lists
 pub mod Asking
-pub mod Papers

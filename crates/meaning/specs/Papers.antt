@@ -1,17 +1,22 @@
 -- The document's histories P1 to P11, as one table.
+use mathlib.Core.Path.{_≡_, refl}
 use mathlib.Core.Bool.{Bool, true, false}
-use mathlib.Core.List.{List, [], _∷_, _++_}
-use Prim.Native.Nat.{ℕ, zero, suc, pred}
+use mathlib.Core.List.{List, [], _∷_, _++_, map}
+use Prim.Native.Nat.{ℕ, zero, suc, pred, _-_}
 use lib.IntN.{pos}
 use lib.ListN.{length}
-use Rattle.meaning.specs.Order.{Vector, raised}
-use Rattle.meaning.specs.Operations.{Operation, adds, removes, clears, growCounter, twoPhaseSet, enableWinsFlag, disableWinsFlag, multiValueRegister, addWinsSet, removeWinsSet}
-use Rattle.meaning.specs.Rows.{unsettledRow, unsettledCount}
-use Rattle.meaning.specs.Table.{Header, Table, low, stable}
-use Rattle.meaning.specs.Questions.{Asked, Answer, flag, list, count, holds, asksFlag, asksList, asksCount, asksHolds}
-use Rattle.meaning.specs.Refusals.{Frame, Local, refusalOfFrame, refusalOfLocal, greatestLimit}
-use Rattle.meaning.specs.Calls.{Reply, answered, steps, ask, meant}
-use Rattle.meaning.specs.History.{Event, receives, issues, settles, Station, afterAll, reached}
+use Rattle.meaning.specs.Tests.{between}
+use Rattle.meaning.specs.Order.{Vector, raised, beforeByVector}
+use Rattle.meaning.specs.Operations.{Operation, adds, removes, clears, growCounter, twoPhaseSet, enableWinsFlag, disableWinsFlag, multiValueRegister, addWinsSet, removeWinsSet, numberOf, before, isCounter, isFlag, removesStand, codesOf, codeAllowed, valueAllowed, allowed}
+use Rattle.meaning.specs.Meaning.{of, on, addOf, removeOf, clearOf, ends, survives, stands, inGrowSet, inTwoPhaseSet, inBySurvival, inByStanding, isIn, totalOf, valuesNamed, listOf, countOf}
+use Rattle.meaning.specs.Rows.{unsettledRow, unsettledCount, keyOf, lowerRow, removeRowsCount, isInByRows, listByRows, countByRows}
+use Rattle.meaning.specs.Arrival.{concerns, rowBefore, takenBy, getsRow, withRow, taggedArrival, sameValue, settledArrival, rowsAfter, amountOf, totalsAfter}
+use Rattle.meaning.specs.Settling.{stableBy, due, addBeside, removeBeside, becomesSettled, droppedWith, leftBy, stepAt}
+use Rattle.meaning.specs.Table.{Header, Table, low, stable, kindIn, zeros, opened}
+use Rattle.meaning.specs.Questions.{Asked, Answer, flag, list, count, holds, asksFlag, asksList, asksCount, asksHolds, fits, byRows, byDefinition, answerFrom}
+use Rattle.meaning.specs.Refusals.{Frame, Local, refusalOfFrame, refusalOfLocal, greatestLimit, wellShaped, declared, operationAllowed, inTime, frameRefusals, roomFor, arrivalRefusals, issuedBy, localRefusals, settlingRefusals, refusalOfSettling, wellAsked, listTooLong, questionRefusals}
+use Rattle.meaning.specs.Calls.{Reply, answered, steps, ask, meant, afterArrival, outcome, receive, issue, rowsSettled, settle, replyOf, askOf}
+use Rattle.meaning.specs.History.{Event, receives, issues, settles, Station, afterAll, reached, afterOutcome, afterSettling, after}
 
 -- A line of the table. A roll: the group's size, the kind of object 0, how many operations it takes, what happens, the question and its
 -- answer. A low: a table, its Low, and an operation that is stable and one that isn't.
@@ -19,10 +24,11 @@ pub data Paper : Type 0 where
   roll : (size kind operations : ℕ) → List Event → Asked → Answer → Paper
   lows : Table → Vector → Operation → Operation → Paper
 
--- What a line comes to: how many operations were accepted, how many rows are unsettled in the end, and the replies to the question, by
--- rows and by the definitions: at once, after settling what is stable, and after full settling.
+-- What a line comes to: how many operations were accepted, how many steps each of two settling calls reported, how many rows are unsettled
+-- in the end, and the replies to the question, by rows and by the definitions: at once, after settling what is stable, and after full
+-- settling.
 pub data Result : Type 0 where
-  replies : (accepted unsettled : ℕ) → List Reply → Result
+  replies : (accepted : ℕ) (reported : List ℕ) (unsettled : ℕ) → List Reply → Result
   lowIs : Vector → Bool → Bool → Result
 
 -- "N = 2 and value 7 unless said; vectors in brackets." We are station 0, object 1 is a counter.
@@ -58,24 +64,42 @@ seenBy (suc others) clock = theirs (suc others) 1 adds 1 (raised clock (suc othe
 abbrev pub bothReplies : Header → Asked → Station → List Reply
 bothReplies header asked station = ask (station .table) room asked ∷ meant header (station .accepted) room asked ∷ []
 
-abbrev pub settleAll : List Event
-settleAll = settles greatestLimit ∷ []
+abbrev pub settleAll : Station → Station
+settleAll station = afterAll (settles greatestLimit ∷ []) station
+
+-- The steps that a settling call reports, and the fall in unsettled rows.
+abbrev pub reportedBy : Station → ℕ
+reportedBy station = steps (station .table) greatestLimit
+
+abbrev pub unsettledIn : Station → ℕ
+unsettledIn station = unsettledCount (station .table .rows)
+
+abbrev pub fallOf : Station → ℕ
+fallOf station = unsettledIn station - unsettledIn (settleAll station)
+
+-- A roll's station at once; and later, settled, when the others have seen all of it.
+abbrev pub atOnce : ℕ → ℕ → List Event → Station
+atOnce size kind events = reached (group size kind) events
+
+abbrev pub whenSeen : ℕ → Station → Station
+whenSeen size station = let settled = settleAll station in afterAll (seenBy (pred size) (settled .table .clock)) settled
 
 unfoldable pub resultOf : Paper → Result
 resultOf (roll size kind operations events asked answer) =
-    let header = group size kind in
-    let atOnce = reached header events in
-    let settled = afterAll settleAll atOnce in
-    let calm = afterAll (seenBy (pred size) (settled .table .clock) ++ settleAll) settled in
-    replies (length (atOnce .accepted)) (unsettledCount (calm .table .rows))
-    (bothReplies header asked atOnce ++ (bothReplies header asked settled ++ bothReplies header asked calm))
+    let now = atOnce size kind events in
+    let seen = whenSeen size now in
+    let replyAt : Station → List Reply = bothReplies (group size kind) asked in
+    replies (length (now .accepted)) (reportedBy now ∷ reportedBy seen ∷ []) (unsettledIn (settleAll seen))
+    (replyAt now ++ (replyAt (settleAll now) ++ replyAt (settleAll seen)))
 resultOf (lows table vector u t) = lowIs (low table) (stable table u) (stable table t)
 
--- What the document says: every operation of the line is accepted, no row is left unsettled, and the answer is one and the same.
+-- What the document says: every operation of the line is accepted, the steps reported are the fall in unsettled rows, no row is left
+-- unsettled, and the answer is one and the same.
 unfoldable pub saidOf : Paper → Result
 saidOf (roll size kind operations events asked answer) =
+    let now = atOnce size kind events in
     let reply = answered answer in
-    replies operations 0 (reply ∷ reply ∷ reply ∷ reply ∷ reply ∷ reply ∷ [])
+    replies operations (fallOf now ∷ fallOf (whenSeen size now) ∷ []) 0 (reply ∷ reply ∷ reply ∷ reply ∷ reply ∷ reply ∷ [])
 saidOf (lows table vector u t) = lowIs vector true false
 
 -- The table of P11, and an operation with a vector.
@@ -179,3 +203,14 @@ sessionSaid = record {
     rows = unsettledRow issuedThere ∷ [];
   };
 }
+
+-- "P1 to P11 are proved together, as one tabulated statement." It stands beside the definitions, since it is computed from them alone: a wrong
+-- rule is then refused first of all at a history that it gets wrong.
+pub all-right : map resultOf (papers ++ shortcuts) ≡ map saidOf (papers ++ shortcuts)
+unfolding resultOf saidOf papers shortcuts between beforeByVector numberOf before isCounter isFlag removesStand codesOf codeAllowed valueAllowed allowed of on addOf removeOf clearOf ends survives stands inGrowSet inTwoPhaseSet inBySurvival inByStanding isIn totalOf valuesNamed listOf countOf keyOf lowerRow removeRowsCount isInByRows listByRows countByRows concerns rowBefore takenBy getsRow withRow taggedArrival sameValue settledArrival rowsAfter amountOf totalsAfter stableBy due addBeside removeBeside becomesSettled droppedWith leftBy stepAt kindIn low stable zeros opened fits byRows byDefinition answerFrom wellShaped declared operationAllowed inTime frameRefusals roomFor arrivalRefusals refusalOfFrame issuedBy localRefusals refusalOfLocal settlingRefusals refusalOfSettling wellAsked listTooLong questionRefusals afterArrival outcome receive issue rowsSettled steps settle replyOf askOf ask meant afterOutcome afterSettling after afterAll reached
+all-right = refl
+
+-- "The whole of one session, input then output": refusals, answers, the issued frame, the step count and the table of its saved form.
+pub session-right : session ≡ sessionSaid
+unfolding session sessionSaid between beforeByVector numberOf before isCounter isFlag removesStand codesOf codeAllowed valueAllowed allowed of on addOf removeOf clearOf ends survives stands inGrowSet inTwoPhaseSet inBySurvival inByStanding isIn totalOf valuesNamed listOf countOf keyOf lowerRow removeRowsCount isInByRows listByRows countByRows concerns rowBefore takenBy getsRow withRow taggedArrival sameValue settledArrival rowsAfter amountOf totalsAfter stableBy due addBeside removeBeside becomesSettled droppedWith leftBy stepAt kindIn low stable zeros opened fits byRows byDefinition answerFrom wellShaped declared operationAllowed inTime frameRefusals roomFor arrivalRefusals refusalOfFrame issuedBy localRefusals refusalOfLocal settlingRefusals refusalOfSettling wellAsked listTooLong questionRefusals afterArrival outcome receive issue rowsSettled steps settle replyOf askOf ask meant afterOutcome afterSettling after afterAll reached
+session-right = refl
