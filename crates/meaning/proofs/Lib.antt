@@ -4,4 +4,5 @@ pub mod Ascending
 pub mod OneValue
 pub mod RowLaws
 pub mod Acceptance
+pub mod TableFacts
 pub mod Papers
