@@ -5,4 +5,5 @@ pub mod OneValue
 pub mod RowLaws
 pub mod Acceptance
 pub mod TableFacts
+pub mod Refusals
 pub mod Papers
