@@ -6,4 +6,5 @@ pub mod RowLaws
 pub mod Acceptance
 pub mod TableFacts
 pub mod Refusals
+pub mod Settling
 pub mod Papers

@@ -1,9 +1,9 @@
 -- Refusals: each number is given exactly when the document says, in its order and only then; and a refusal changes nothing.
 use mathlib.Core.Path.{_≡_, refl, sym, _∙_, ap, subst}
-use mathlib.Core.Bool.{Bool, true, false, not, _&&_, _||_, cond, false≢true}
+use mathlib.Core.Bool.{Bool, true, false, not, _&&_, cond, false≢true}
 use mathlib.Core.Logic.{_≢_, _↔_}
-use mathlib.Core.List.{List, [], _∷_, _++_}
-use Prim.Native.Nat.{ℕ, zero, suc, _<_, _≤_}
+use mathlib.Core.List.{List, [], _∷_}
+use Prim.Native.Nat.{ℕ, zero, suc, _<_}
 use native.Mathlib.Omega.{arith}
 use native.Mathlib.Nat.{le-of-suc-le-suc, not-suc-le-zero}
 use lib.Dec.{eqb}
@@ -16,7 +16,7 @@ use Rattle.meaning.specs.Questions.{Asked, Source, byRows, answerFrom}
 use Rattle.meaning.specs.Refusals.{Refusal, _when_, firstOf, Frame, Local, frameRefusals, arrivalRefusals, refusalOfFrame, issuedBy, localRefusals, refusalOfLocal, settlingRefusals, refusalOfSettling, questionRefusals, openingRefusals}
 use Rattle.meaning.specs.Calls.{Outcome, Settled, Reply, Opening, withRows, afterArrival, outcome, receive, issue, rowsSettled, steps, settle, replyOf, askOf, ask, openTable}
 use Rattle.meaning.specs.History.{Event, receives, issues, settles, Station, afterOutcome, afterSettling, after}
-use Rattle.meaning.proofs.Tests.{cases, clash, and-left, and-right, or-left, or-right, or-left-fails, or-right-fails, not-holds}
+use Rattle.meaning.proofs.Tests.{cases, clash, and-left, and-right, or-left, or-right, not-holds}
 
 -- The refusal at a place of a chain: its number, and whether its own test gives it. Past the end none is given.
 abbrev pub numberAt : List Refusal → ℕ → ℕ
