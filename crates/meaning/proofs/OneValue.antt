@@ -11,7 +11,7 @@ use Rattle.meaning.specs.Operations.{Operation, before}
 use Rattle.meaning.specs.Meaning.{of, on, addOf, removeOf, clearOf, ends}
 use Rattle.meaning.specs.Rows.{Row, unsettledRow, untagged}
 use Rattle.meaning.specs.Arrival.{concerns}
-use Rattle.meaning.proofs.Tests.{cases, clash, and-left, and-right, and-both}
+use Rattle.meaning.proofs.Tests.{and-left, or-left}
 use Rattle.meaning.proofs.Vectors.{before-at-most, before-irreflexive, at-most-before, at-most-refl}
 
 abbrev pub below : Operation → Operation → Bool
@@ -59,15 +59,23 @@ pub remove-on : (o v : ℕ) (u : Operation) → removeOf o v u ≡ true → on o
 unfolding removeOf
 remove-on o v u p = and-left (on o v u) (eqb (u .code) 2) p
 
-pub on-concerns : (k o v : ℕ) (u : Operation) → on o v u ≡ true → concerns k o v u ≡ true
-unfolding on concerns
-on-concerns k o v u p = go (eqb (u .object) o) (eqb k 7) (eqb (u .code) 3) (eqb (u .value) v) p
+-- what is later than a standing operation on v ends its standing
+abbrev pub touches : ℕ → ℕ → Operation → Bool
+touches o v t = on o v t || clearOf o t
+
+pub concerns-touches : (k o v : ℕ) (t : Operation) → eqb k 7 ≡ false → concerns k o v t ≡ touches o v t
+unfolding concerns on clearOf
+concerns-touches k o v t p = rw p (go (eqb (t .object) o) (eqb (t .code) 3) (eqb (t .value) v))
   where
-    go : (a b c d : Bool) → (a && d) ≡ true → (a && (b || (c || d))) ≡ true
-    go true true c d p = refl
-    go true false true d p = refl
-    go true false false d p = p
-    go false b c d p = p
+    go : (a c e : Bool) → (a && (c || e)) ≡ ((a && e) || (a && c))
+    go true true true = refl
+    go true true false = refl
+    go true false true = refl
+    go true false false = refl
+    go false c e = refl
+
+pub on-touches : (o v : ℕ) (u : Operation) → on o v u ≡ true → touches o v u ≡ true
+on-touches o v u p = or-left (clearOf o u) p
 
 pub on-untagged : (o v : ℕ) (u : Operation) → on o v (untagged u) ≡ on o v u
 unfolding on
@@ -81,12 +89,12 @@ pub remove-untagged : (o v : ℕ) (u : Operation) → removeOf o v (untagged u) 
 unfolding on removeOf
 remove-untagged o v u = refl
 
--- the arrival t takes the row r of the value v
-abbrev pub gone : ℕ → ℕ → ℕ → Operation → Row → Bool
-gone k o v t r = concerns k o v t && (r .settled || before (r .operation) t)
+-- the arrival t takes the row r, where it concerns the row's value
+abbrev pub gone : Bool → Operation → Row → Bool
+gone concerned t r = concerned && (r .settled || before (r .operation) t)
 
 -- what the arrival t does to the rows of v, where puts says which operations get one
-pub record Arrived (k o v : ℕ) (puts : Operation → Bool) (t : Operation) (rows rows′ : List Row) : Type 0 where
+pub record Arrived (o v : ℕ) (concerned : Bool) (puts : Operation → Bool) (t : Operation) (rows rows′ : List Row) : Type 0 where
   pub new : puts t ≡ true → List·Memᴰ (unsettledRow t) rows′
-  pub kept : (r : Row) → List·Memᴰ r rows → on o v (r .operation) ≡ true → gone k o v t r ≡ false → List·Memᴰ r rows′
-  pub back : (r : Row) → List·Memᴰ r rows′ → on o v (r .operation) ≡ true → ((r ≡ unsettledRow t) × (puts t ≡ true)) ⊎ (List·Memᴰ r rows × (gone k o v t r ≡ false))
+  pub kept : (r : Row) → List·Memᴰ r rows → on o v (r .operation) ≡ true → gone concerned t r ≡ false → List·Memᴰ r rows′
+  pub back : (r : Row) → List·Memᴰ r rows′ → on o v (r .operation) ≡ true → ((r ≡ unsettledRow t) × (puts t ≡ true)) ⊎ (List·Memᴰ r rows × (gone concerned t r ≡ false))

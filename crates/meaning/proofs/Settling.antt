@@ -7,19 +7,23 @@ use Prim.Native.Nat.{ℕ, zero, suc, _+_, _≤_, _<_}
 use native.Mathlib.Omega.{arith}
 use native.Mathlib.Nat.{le-of-suc-le-suc, not-suc-le-zero}
 use lib.Dec.{eqb}
-use borrow.Author.Tests.{eqb-true}
+use lib.ListN.{length}
 use Rattle.meaning.specs.Tests.{any, those}
 use Rattle.meaning.specs.Order.{Vector}
 use Rattle.meaning.specs.Operations.{Operation, isCounter, removesStand, codesOf, codeAllowed}
 use Rattle.meaning.specs.Meaning.{on, addOf, removeOf}
-use Rattle.meaning.specs.Rows.{Row, untagged, unsettledRow, settledRow, unsettledCount, removeRowsCount, isInByRows}
+use Rattle.meaning.specs.Rows.{Row, unsettledRow, settledRow, unsettledCount, removeRowsCount, isInByRows, listByRows, countByRows}
 use Rattle.meaning.specs.Arrival.{getsRow, sameValue}
 use Rattle.meaning.specs.Settling.{due, addBeside, removeBeside, becomesSettled, droppedWith, leftBy, stepAt, stepFrom, stepOf, settledRows, stepsTaken}
 use Rattle.meaning.specs.Table.{Table, kindIn, low, storable, settledOnly, isTable}
-use Rattle.meaning.specs.Calls.{rowsSettled, steps}
-use Rattle.meaning.proofs.Tests.{cases, clash, iff, and-right, and-both, and-fails, fails, fails-not, or-cases, or-left, or-right, or-right-fails, any-in, any-out, any-no, any-none, any-cong, any-or, any-those, any-append, any-mid, mem-mid, mem-into}
-use Rattle.meaning.proofs.OneValue.{add-on, remove-on, on-untagged, add-untagged, remove-untagged}
-use Rattle.meaning.proofs.RowLaws.{on-eq, on-self, step-back, step-kept, step-elim, steps-elim, dropped-same-value}
+use Rattle.meaning.specs.Questions.{Asked, byRows}
+use Rattle.meaning.specs.Calls.{withRows, rowsSettled, steps, ask}
+use Rattle.meaning.proofs.Tests.{cases, clash, iff, and-right, and-both, and-fails, fails-not, or-cases, or-left, or-right, or-right-fails, any-in, any-out, any-no, any-none, any-cong, any-or, any-mid, mem-mid, mem-into}
+use Rattle.meaning.proofs.OneValue.{add-on, remove-on, add-untagged, remove-untagged}
+use Rattle.meaning.proofs.RowLaws.{on-eq, on-self, step-back, step-elim, steps-elim}
+use Rattle.meaning.proofs.Steps.{others, any-act, add-by, add-not-rem}
+use Rattle.meaning.proofs.Lists.{rows-list-same}
+use Rattle.meaning.proofs.Asking.{replies-alike}
 use Rattle.meaning.proofs.TableFacts.{RowFacts, facts}
 
 -- the count
@@ -172,12 +176,6 @@ stored-codes (suc (suc (suc (suc (suc (suc (suc (suc zero)))))))) u s h = only-a
 stored-codes (suc (suc (suc (suc (suc (suc (suc (suc (suc zero))))))))) u s h = add-or-remove (eqb (u .code) 1) (eqb (u .code) 2) (eqb (u .code) 3) (eqb (u .code) 3 || false) s (or-nil (eqb (u .code) 3))
 stored-codes (suc (suc (suc (suc (suc (suc (suc (suc (suc (suc n)))))))))) u s h = absurd (false≢true (and-right (not (isCounter (suc (suc (suc (suc (suc (suc (suc (suc (suc (suc n)))))))))))) false s))
 
--- tests of the rows after a step on the row of u
-shuffle : (a b c : Bool) → (a || (b || c)) ≡ (b || (a || c))
-shuffle true true c = refl
-shuffle true false c = refl
-shuffle false b c = refl
-
 -- a step on an add, and on a remove, in kinds 6 and 9: a and b tell whether the other rows have adds and removes, d of those that stay
 on-add : (a b d : Bool) → (a ≡ true → d ≡ b) → (b ≡ false → d ≡ false) → (((not (a || b) && true) || a) && not (true && ((not (a || b) && false) || d))) ≡ ((true || a) && not (true && (false || b)))
 on-add true b d f g = ap not (f refl)
@@ -190,41 +188,11 @@ on-remove true false = refl
 on-remove false b = refl
 
 module _ (kind : ℕ) (u : Operation) (above below : List Row) where
-  abbrev others : List Row
-  others = above ++ below
+  abbrev beside : List Row
+  beside = above ++ below
 
   abbrev stays : Row → Bool
-  stays row = not (droppedWith kind u others row)
-
-  any-step : (p : Row → Bool) → any p (stepAt kind above u below) ≡ ((becomesSettled kind u others && p (settledRow u)) || any (λ (row : Row). p row && stays row) others)
-  unfolding stepAt leftBy
-  any-step p =
-      rw (any-append, any-append, any-those, any-those, any-append, one (becomesSettled kind u others))
-      (shuffle (any (λ (row : Row). p row && stays row) above) (becomesSettled kind u others && p (settledRow u)) (any (λ (row : Row). p row && stays row) below))
-    where
-      one : (b : Bool) → any p (cond b (settledRow u ∷ []) []) ≡ (b && p (settledRow u))
-      one true = go (p (settledRow u))
-        where
-          go : (a : Bool) → (a || false) ≡ a
-          go true = refl
-          go false = refl
-      one false = refl
-
-  -- of another value than u's
-  elsewhere : (o v : ℕ) (q : Operation → Bool) → ((t : Operation) → q t ≡ true → on o v t ≡ true) → on o v u ≡ false →
-      any (λ (row : Row). q (row .operation)) (stepAt kind above u below) ≡ any (λ (row : Row). q (row .operation)) (above ++ (unsettledRow u ∷ below))
-  elsewhere o v q on-q n = iff (any p (stepAt kind above u below)) (any p (above ++ (unsettledRow u ∷ below)))
-      (λ e. let s = any-out p (stepAt kind above u below) e in ⊎-elim
-      (λ m. any-in p m (s .2))
-      (λ f. clash (on o v u) (sym (on-untagged o v u) ∙ on-q (untagged u) (subst (λ (row : Row). p row ≡ true) f (s .2))) n)
-      (step-back kind above below u (s .1)))
-      (λ e. let s = any-out p (above ++ (unsettledRow u ∷ below)) e in ⊎-elim
-      (λ f. clash (on o v u) (on-q u (subst (λ (row : Row). p row ≡ true) f (s .2))) n)
-      (λ m. any-in p m (s .2))
-      (step-kept kind above below u (s .1) (dropped-same-value o v kind u others (s .0) (on-q (s .0 .operation) (s .2)) n)))
-    where
-      p : Row → Bool
-      p row = q (row .operation)
+  stays row = not (droppedWith kind u beside row)
 
   abbrev answerKept : ℕ → ℕ → ℕ → Type 0
   answerKept k o v = isInByRows k o v (stepAt kind above u below) ≡ isInByRows k o v (above ++ (unsettledRow u ∷ below))
@@ -232,17 +200,16 @@ module _ (kind : ℕ) (u : Operation) (above below : List Row) where
   -- a step on another value keeps the answer
   kept-elsewhere : (k o v : ℕ) → on o v u ≡ false → answerKept k o v
   unfolding isInByRows
-  kept-elsewhere k o v n = rw (elsewhere o v (addOf o v) (add-on o v) n, elsewhere o v (removeOf o v) (remove-on o v) n)
+  kept-elsewhere k o v n = rw (
+    others k kind o v u above below (λ (row : Row). addOf o v (row .operation)) (λ row. add-on o v (row .operation)) n,
+    others k kind o v u above below (λ (row : Row). removeOf o v (row .operation)) (λ row. remove-on o v (row .operation)) n,
+  )
 
   abbrev add : Row → Bool
   add row = addOf (u .object) (u .value) (row .operation)
 
   abbrev remove : Row → Bool
   remove row = removeOf (u .object) (u .value) (row .operation)
-
-  add-by : (row : Row) → on (u .object) (u .value) (row .operation) ≡ true → eqb (row .operation .code) 1 ≡ true → add row ≡ true
-  unfolding addOf
-  add-by row p q = and-both (on (u .object) (u .value) (row .operation)) (eqb (row .operation .code) 1) p q
 
   add-only : (row : Row) → eqb (row .operation .code) 1 ≡ false → add row ≡ false
   unfolding addOf
@@ -255,26 +222,19 @@ module _ (kind : ℕ) (u : Operation) (above below : List Row) where
   unfolding isInByRows removeRowsCount settledOnly becomesSettled sameValue droppedWith
   kept-of-adds stand only adding =
       let was : any add (above ++ (unsettledRow u ∷ below)) ≡ true = any-in add (mem-mid above below (unsettledRow u)) (adding (unsettledRow u) (mem-mid above below (unsettledRow u)) (on-self u)) in
-      let is : any add (stepAt kind above u below) ≡ true = any-step add ∙ cases (any (sameValue u) others)
-      (λ q. let s = any-out (sameValue u) others q in
-      or-right (becomesSettled kind u others && add (settledRow u))
+      let is : any add (stepAt kind above u below) ≡ true = any-act kind u above below add ∙ cases (any (sameValue u) beside)
+      (λ q. let s = any-out (sameValue u) beside q in
+      or-right (becomesSettled kind u beside && add (settledRow u))
       (any-in (λ (row : Row). add row && stays row) (s .1) (and-both (add (s .0)) (stays (s .0)) (adding (s .0) (mem-into above below (unsettledRow u) (s .1)) (s .2)) (rw stand))))
-      (λ q. or-left (any (λ (row : Row). add row && stays row) others) (and-both (becomesSettled kind u others) (add (settledRow u))
+      (λ q. or-left (any (λ (row : Row). add row && stays row) beside) (and-both (becomesSettled kind u beside) (add (settledRow u))
       (rw (stand, q))
       (add-untagged (u .object) (u .value) u ∙ adding (unsettledRow u) (mem-mid above below (unsettledRow u)) (on-self u)))) in
       rw (or-right-fails (eqb kind 3) (eqb kind 4) only, stand, was, is)
 
-  -- an add is no remove, and is not dropped with another row
-  add-no-remove : (row : Row) → add row ≡ true → remove row ≡ false
-  unfolding addOf removeOf
-  add-no-remove row p = fails (remove row) (λ q.
-      let one = eqb-true (row .operation .code) 1 (and-right (on (u .object) (u .value) (row .operation)) (eqb (row .operation .code) 1) p) in
-      let two = eqb-true (row .operation .code) 2 (and-right (on (u .object) (u .value) (row .operation)) (eqb (row .operation .code) 2) q) in
-      omega arith)
-
-  adds-stay : any (λ (row : Row). add row && stays row) others ≡ any add others
+  -- an add is not dropped with another row
+  adds-stay : any (λ (row : Row). add row && stays row) beside ≡ any add beside
   unfolding droppedWith
-  adds-stay = any-cong (λ (row : Row). add row && stays row) add others (λ row _. go (row .settled) (add row) (removesStand kind && (eqb (u .code) 1 && not (addBeside u others))) (remove row) (add-no-remove row))
+  adds-stay = any-cong (λ (row : Row). add row && stays row) add beside (λ row _. go (row .settled) (add row) (removesStand kind && (eqb (u .code) 1 && not (addBeside u beside))) (remove row) (add-not-rem (u .object) (u .value) (row .operation)))
     where
       go : (f a s b : Bool) → (a ≡ true → b ≡ false) → (a && not (s && (f && b))) ≡ a
       go f false s b h = refl
@@ -282,33 +242,33 @@ module _ (kind : ℕ) (u : Operation) (above below : List Row) where
       go false true true b h = refl
       go f true false b h = refl
 
-  removes-stay : (removesStand kind && (eqb (u .code) 1 && not (addBeside u others))) ≡ false → any (λ (row : Row). remove row && stays row) others ≡ any remove others
+  removes-stay : (removesStand kind && (eqb (u .code) 1 && not (addBeside u beside))) ≡ false → any (λ (row : Row). remove row && stays row) beside ≡ any remove beside
   unfolding droppedWith
-  removes-stay e = any-cong (λ (row : Row). remove row && stays row) remove others (λ row _. rw e (go (remove row)))
+  removes-stay e = any-cong (λ (row : Row). remove row && stays row) remove beside (λ row _. rw e (go (remove row)))
     where
       go : (b : Bool) → (b && true) ≡ b
       go true = refl
       go false = refl
 
-  removes-none : any remove others ≡ false → any (λ (row : Row). remove row && stays row) others ≡ false
-  removes-none e = any-none (λ (row : Row). remove row && stays row) others (λ row m. rw (any-no remove others e row m))
+  removes-none : any remove beside ≡ false → any (λ (row : Row). remove row && stays row) beside ≡ false
+  removes-none e = any-none (λ (row : Row). remove row && stays row) beside (λ row m. rw (any-no remove beside e row m))
 
   -- kinds 6 and 9, whose rows are adds and removes
   module _ (stand : removesStand kind ≡ true)
       (coded : (row : Row) → List·Memᴰ row (above ++ (unsettledRow u ∷ below)) → on (u .object) (u .value) (row .operation) ≡ true → (add row || remove row) ≡ true) where
-    same-add-or-remove : any (sameValue u) others ≡ (any add others || any remove others)
+    same-add-or-remove : any (sameValue u) beside ≡ (any add beside || any remove beside)
     unfolding sameValue
     same-add-or-remove =
-        any-cong (sameValue u) (λ (row : Row). add row || remove row) others (λ row m. iff (sameValue u row) (add row || remove row)
+        any-cong (sameValue u) (λ (row : Row). add row || remove row) beside (λ row m. iff (sameValue u row) (add row || remove row)
         (coded row (mem-into above below (unsettledRow u) m))
         (λ e. ⊎-elim (add-on (u .object) (u .value) (row .operation)) (remove-on (u .object) (u .value) (row .operation)) (or-cases (add row) (remove row) e)))
-        ∙ any-or add remove others
+        ∙ any-or add remove beside
 
-    settles-add : eqb (u .code) 1 ≡ true → becomesSettled kind u others ≡ not (any add others || any remove others)
+    settles-add : eqb (u .code) 1 ≡ true → becomesSettled kind u beside ≡ not (any add beside || any remove beside)
     unfolding becomesSettled
     settles-add c = rw (stand, c, same-add-or-remove)
 
-    settles-remove : eqb (u .code) 1 ≡ false → becomesSettled kind u others ≡ (any add others && not (any remove others))
+    settles-remove : eqb (u .code) 1 ≡ false → becomesSettled kind u beside ≡ (any add beside && not (any remove beside))
     unfolding becomesSettled addBeside removeBeside
     settles-remove c = rw (stand, c)
 
@@ -319,17 +279,17 @@ module _ (kind : ℕ) (u : Operation) (above below : List Row) where
     kept-of-standing : answerKept kind (u .object) (u .value)
     unfolding isInByRows addBeside
     kept-of-standing =
-        rw (any-step add, any-step remove, any-mid add above below (unsettledRow u), any-mid remove above below (unsettledRow u), adds-stay, add-untagged, remove-untagged, counted)
+        rw (any-act kind u above below add, any-act kind u above below remove, any-mid add above below (unsettledRow u), any-mid remove above below (unsettledRow u), adds-stay, add-untagged, remove-untagged, counted)
         (cases (eqb (u .code) 1)
         (λ c.
-        let a : add (unsettledRow u) ≡ true = add-by (unsettledRow u) (on-self u) c in
-        rw (settles-add c, a, add-no-remove (unsettledRow u) a)
-        (on-add (any add others) (any remove others) (any (λ (row : Row). remove row && stays row) others) (λ e. removes-stay (rw (stand, c, e))) removes-none))
+        let a : add (unsettledRow u) ≡ true = add-by (u .object) (u .value) u (on-self u) c in
+        rw (settles-add c, a, add-not-rem (u .object) (u .value) u a)
+        (on-add (any add beside) (any remove beside) (any (λ (row : Row). remove row && stays row) beside) (λ e. removes-stay (rw (stand, c, e))) removes-none))
         (λ c.
         let a : add (unsettledRow u) ≡ false = add-only (unsettledRow u) c in
         let b : remove (unsettledRow u) ≡ true = ⊎-elim (λ h. clash (add (unsettledRow u)) h a) (λ h. h) (or-cases (add (unsettledRow u)) (remove (unsettledRow u)) (coded (unsettledRow u) (mem-mid above below (unsettledRow u)) (on-self u))) in
         rw (settles-remove c, a, b, removes-stay (rw (stand, c)))
-        (on-remove (any add others) (any remove others))))
+        (on-remove (any add beside) (any remove beside))))
 
 -- The step on the row of u keeps the answer on the value v of the object o.
 abbrev pub StepKeeps : Table → List Row → List Row → Operation → ℕ → ℕ → Type 0
@@ -361,7 +321,7 @@ module _ (table : Table) (above below : List Row) (u : Operation) (each : EachRo
   step-in-adds o v only stand = by-value o v (λ e.
       let stand′ : removesStand kind ≡ false = rw e stand in
       let only′ : settledOnly kind ≡ false = rw e only in
-      kept-of-adds kind u above below stand′ only′ (λ row m p. add-by kind u above below row p (or-nil (eqb (row .operation .code) 1) (rw stand′ at (codes row m p only′)))))
+      kept-of-adds kind u above below stand′ only′ (λ row m p. add-by (u .object) (u .value) (row .operation) p (or-nil (eqb (row .operation .code) 1) (rw stand′ at (codes row m p only′)))))
 
   -- Kinds 6 and 9: what the step drops or settles leaves the answer of adds and removes together.
   pub step-in-standing : (o v : ℕ) → settledOnly (kindIn (table .header) o) ≡ false → removesStand (kindIn (table .header) o) ≡ true → StepKeeps table above below u o v
@@ -390,3 +350,19 @@ settling-keeps-answers table e limit o v =
     steps-elim (λ (rows : List Row). EachRow table rows × (isInByRows (kindIn (table .header) o) o v rows ≡ isInByRows (kindIn (table .header) o) o v (table .rows))) (kindIn (table .header)) (low table)
     (λ above below u _ h. (step-facts table above below u (h .0), step-at-keeps table above below u (h .0) o v ∙ h .1))
     limit (table .rows) (facts table e .row-facts, refl) .1
+
+-- Every question gets the reply that it got before: total, flag, list, count and holding, refusals included.
+pub settling-keeps-replies : (table : Table) → isTable table ≡ true → (limit room : ℕ) (asked : Asked) → ask (withRows table (rowsSettled table limit)) room asked ≡ ask table room asked
+unfolding ask byRows countByRows
+settling-keeps-replies table e limit room asked = replies-alike (table .header) (byRows (withRows table (rowsSettled table limit))) (byRows table) room asked (λ _. record {
+  totals = λ _. refl;
+  ins = λ _. settling-keeps-answers table e limit o;
+  lists = λ _. lists;
+  counts = λ _. ap length lists;
+})
+  where
+    o : ℕ
+    o = asked .object
+
+    lists : listByRows (kindIn (table .header) o) o (rowsSettled table limit) ≡ listByRows (kindIn (table .header) o) o (table .rows)
+    lists = rows-list-same (kindIn (table .header) o) o (rowsSettled table limit) (table .rows) (settling-keeps-answers table e limit o)
