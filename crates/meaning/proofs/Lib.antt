@@ -17,4 +17,5 @@ pub mod Lists
 pub mod Asking
 pub mod Refusals
 pub mod Settling
+pub mod TableRules
 pub mod Papers
