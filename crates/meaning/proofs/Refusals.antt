@@ -2,7 +2,7 @@
 use mathlib.Core.Path.{_≡_, refl, sym, _∙_, ap, subst}
 use mathlib.Core.Bool.{Bool, true, false, not, _&&_, cond, false≢true}
 use mathlib.Core.Logic.{_≢_, _↔_}
-use mathlib.Core.List.{List, [], _∷_}
+use mathlib.Core.List.{List, [], _∷_, map}
 use Prim.Native.Nat.{ℕ, zero, suc, _<_}
 use native.Mathlib.Omega.{arith}
 use native.Mathlib.Nat.{le-of-suc-le-suc, not-suc-le-zero}
@@ -40,6 +40,11 @@ pub record ExactlyWhen (chain : List Refusal) : Type 0 where
   pub when-given : (i : ℕ) → givenAt chain i ≡ true → ((j : ℕ) → j < i → givenAt chain j ≡ false) → firstOf chain ≡ numberAt chain i
   pub none-when : firstOf chain ≡ 0 → (i : ℕ) → givenAt chain i ≡ false
   pub when-none : ((i : ℕ) → i < length chain → givenAt chain i ≡ false) → firstOf chain ≡ 0
+
+-- The numbers of a chain, in the order in which they are tried, and when each is returned.
+pub record Tried (numbers : List ℕ) (chain : List Refusal) : Type 0 where
+  pub in-order : map (λ (refusal : Refusal). refusal .number) chain ≡ numbers
+  pub exactly : ExactlyWhen chain
 
 numbered-at : (chain : List Refusal) (i : ℕ) → i < length chain → numbered (numberAt chain i) chain ≡ true
 numbered-at [] i h = absurd (not-suc-le-zero h)
@@ -142,13 +147,15 @@ pub record Replies (source : Source) (asked : Asked) (call : Reply) (refusal : �
   pub counts : (n : ℕ) → (call ≡ Reply.tooLong n) ↔ ((refusal ≡ 11) × (n ≡ length (source .listAt (asked .object))))
   pub goes : refusal ≡ 0 → call ≡ Reply.answered (answerFrom source asked)
 
--- Every call: "Given exactly when", "in the order they are tried", and "A refusal returns its number (11 also the count)".
+-- Every call: "Refusal numbers, in the order they are tried", "Given exactly when", and "A refusal returns its number (11 also the
+-- count)". A frame passes "1 to 7, 8", a local operation 3, 4, 9 and 8, a question 1, 3, 12 and 11, settling 1, opening 13; 14, the
+-- shape of a line and the length of a space are tried where there are lines and spaces.
 pub record Exact : Type 0 where
-  pub frame : (table : Table) (frame : Frame) → ExactlyWhen (arrivalRefusals table frame)
-  pub local : (table : Table) (local : Local) → ExactlyWhen (localRefusals table local)
-  pub question : (header : Header) (source : Source) (room : ℕ) (asked : Asked) → ExactlyWhen (questionRefusals header source room asked)
-  pub settling : (limit : ℕ) → ExactlyWhen (settlingRefusals limit)
-  pub opening : (space needed : ℕ) (header : Header) → ExactlyWhen (openingRefusals space needed header)
+  pub frame : (table : Table) (frame : Frame) → Tried (1 ∷ 2 ∷ 3 ∷ 4 ∷ 5 ∷ 6 ∷ 7 ∷ 8 ∷ []) (arrivalRefusals table frame)
+  pub local : (table : Table) (local : Local) → Tried (3 ∷ 4 ∷ 9 ∷ 8 ∷ []) (localRefusals table local)
+  pub question : (header : Header) (source : Source) (room : ℕ) (asked : Asked) → Tried (1 ∷ 3 ∷ 12 ∷ 11 ∷ []) (questionRefusals header source room asked)
+  pub settling : (limit : ℕ) → Tried (1 ∷ []) (settlingRefusals limit)
+  pub opening : (space needed : ℕ) (header : Header) → Tried (13 ∷ []) (openingRefusals space needed header)
   pub receiving : (table : Table) (frame : Frame) → let u = frame .operation in
       Returns Outcome.refused (Outcome.accepted u (afterArrival table u (set (table .last) (u .sender) (u .vector)))) (receive table frame) (firstOf (arrivalRefusals table frame))
   pub issuing : (table : Table) (local : Local) → let u = issuedBy table local in
@@ -193,11 +200,11 @@ replies source asked refusal = record {
 pub exactly-when : Exact
 unfolding arrivalRefusals frameRefusals localRefusals questionRefusals settlingRefusals openingRefusals refusalOfFrame refusalOfLocal refusalOfSettling receive issue settle openTable askOf ask
 exactly-when = record {
-  frame = λ table frame. exact (arrivalRefusals table frame) refl;
-  local = λ table local. exact (localRefusals table local) refl;
-  question = λ header source room asked. exact (questionRefusals header source room asked) refl;
-  settling = λ limit. exact (settlingRefusals limit) refl;
-  opening = λ space needed header. exact (openingRefusals space needed header) refl;
+  frame = λ table frame. record { in-order = refl; exactly = exact (arrivalRefusals table frame) refl };
+  local = λ table local. record { in-order = refl; exactly = exact (localRefusals table local) refl };
+  question = λ header source room asked. record { in-order = refl; exactly = exact (questionRefusals header source room asked) refl };
+  settling = λ limit. record { in-order = refl; exactly = exact (settlingRefusals limit) refl };
+  opening = λ space needed header. record { in-order = refl; exactly = exact (openingRefusals space needed header) refl };
   receiving = λ table frame. let u = frame .operation in two-outcomes (firstOf (arrivalRefusals table frame)) u (afterArrival table u (set (table .last) (u .sender) (u .vector)));
   issuing = λ table local. let u = issuedBy table local in two-outcomes (firstOf (localRefusals table local)) u (afterArrival table u (table .last));
   settles = λ table limit. returning Settled.refused (Settled.settled (steps table limit) (withRows table (rowsSettled table limit))) (λ m n e. cc) (λ n e. let z : _≡_ {A = ℕ} 0 1 = cc in omega arith) (firstOf (settlingRefusals limit));

@@ -2,7 +2,7 @@
 use mathlib.Core.Path.{_≡_, refl, sym, _∙_, ap, subst, subst₂}
 use mathlib.Core.Bool.{Bool, true, false, not, _&&_, _||_, cond, false≢true}
 use mathlib.Core.Logic.{_⊎_, ⊎-elim}
-use mathlib.Core.List.{List, [], _∷_, _++_, List·Memᴰ, append-assoc}
+use mathlib.Core.List.{List, [], _∷_, _++_, List·Memᴰ, append-nil, append-assoc}
 use Prim.Native.Nat.{ℕ, zero, suc, _+_, _≤_, _<_}
 use native.Mathlib.Omega.{arith}
 use native.Mathlib.Nat.{le-of-suc-le-suc, not-suc-le-zero}
@@ -18,7 +18,7 @@ use Rattle.meaning.specs.Settling.{due, addBeside, removeBeside, becomes
 use Rattle.meaning.specs.Table.{Table, kindIn, low, storable, settledOnly, isTable}
 use Rattle.meaning.specs.Questions.{Asked, byRows}
 use Rattle.meaning.specs.Calls.{withRows, rowsSettled, steps, ask}
-use Rattle.meaning.proofs.Tests.{cases, clash, iff, and-right, and-both, and-fails, fails-not, or-cases, or-left, or-right, or-right-fails, any-in, any-out, any-no, any-none, any-cong, any-or, any-mid, mem-mid, mem-into}
+use Rattle.meaning.proofs.Tests.{cases, clash, iff, and-right, and-both, and-fails, fails-not, or-cases, or-left, or-right, or-left-fails, or-right-fails, any-in, any-out, any-no, any-none, any-cong, any-or, any-mid, mem-mid, mem-into}
 use Rattle.meaning.proofs.OneValue.{add-on, remove-on, add-untagged, remove-untagged}
 use Rattle.meaning.proofs.RowLaws.{on-eq, on-self, step-back, step-elim, steps-elim}
 use Rattle.meaning.proofs.Steps.{others, any-act, add-by, add-not-rem}
@@ -116,6 +116,22 @@ until-limit-or-none (suc limit) kindOf lo rows = cases (any (due lo) rows)
     at-each q f zero h = q
     at-each q f (suc n) h = f n (le-of-suc-le-suc h)
 
+-- "One settling step takes the first unsettled row, in row order, that is stable."
+pub step-at-first : (kindOf : ℕ → ℕ) (lo : Vector) (above passed below : List Row) (row : Row) → any (due lo) passed ≡ false → due lo row ≡ true →
+    stepFrom kindOf lo above (passed ++ (row ∷ below)) ≡ stepAt (kindOf (row .operation .object)) (above ++ passed) (row .operation) below
+step-at-first kindOf lo above [] below row e q = rw q (ap (λ (rows : List Row). stepAt (kindOf (row .operation .object)) rows (row .operation) below) (sym (append-nil above)))
+step-at-first kindOf lo above (x ∷ passed) below row e q =
+    rw (or-left-fails (due lo x) (any (due lo) passed) e)
+    (step-at-first kindOf lo (above ++ (x ∷ [])) passed below row (or-right-fails (due lo x) (any (due lo) passed) e) q
+    ∙ ap (λ (rows : List Row). stepAt (kindOf (row .operation .object)) rows (row .operation) below) (append-assoc above (x ∷ []) passed))
+
+-- Where no row is due, a step leaves all rows.
+pub step-at-none : (kindOf : ℕ → ℕ) (lo : Vector) (above rows : List Row) → any (due lo) rows ≡ false → stepFrom kindOf lo above rows ≡ above ++ rows
+step-at-none kindOf lo above [] e = sym (append-nil above)
+step-at-none kindOf lo above (row ∷ rows) e =
+    rw (or-left-fails (due lo row) (any (due lo) rows) e)
+    (step-at-none kindOf lo (above ++ (row ∷ [])) rows (or-right-fails (due lo row) (any (due lo) rows) e) ∙ append-assoc above (row ∷ []) rows)
+
 -- rows keep what the rules say of each
 settled-facts : (table : Table) (u : Operation) → RowFacts table (unsettledRow u) → RowFacts table (settledRow u)
 unfolding storable getsRow
@@ -135,6 +151,7 @@ settled-facts table u f = record {
 abbrev pub EachRow : Table → List Row → Type 0
 EachRow table rows = (row : Row) → List·Memᴰ row rows → RowFacts table row
 
+-- "each call keeps the rules": a step keeps what they say of each row.
 pub step-facts : (table : Table) (above below : List Row) (u : Operation) → EachRow table (above ++ (unsettledRow u ∷ below)) → EachRow table (stepAt (kindIn (table .header) (u .object)) above u below)
 step-facts table above below u f row m = ⊎-elim (f row) (λ e. rw e (settled-facts table u (f (unsettledRow u) (mem-mid above below (unsettledRow u))))) (step-back (kindIn (table .header) (u .object)) above below u m)
 
@@ -330,6 +347,7 @@ module _ (table : Table) (above below : List Row) (u : Operation) (each : EachRo
       let stand′ : removesStand kind ≡ true = rw e stand in
       kept-of-standing kind u above below stand′ (λ row m p. rw p (rw stand′ at (codes row m p (rw e only)))))
 
+  -- "a settling step changes no answer": a step at any unsettled row, whatever the kind.
   pub step-at-keeps : (o v : ℕ) → StepKeeps table above below u o v
   step-at-keeps o v = cases (settledOnly (kindIn (table .header) o)) (step-in-settled-only o v)
       (λ only. cases (removesStand (kindIn (table .header) o)) (step-in-standing o v only) (step-in-adds o v only))
@@ -342,7 +360,7 @@ step-keeps-answers table e o v = step-elim (λ (rows : List Row). isInByRows (ki
     step-at-keeps table above below u (subst (EachRow table) e′ (facts table e .row-facts)) o v
     ∙ ap (isInByRows (kindIn (table .header) o) o v) (sym e′))
 
--- The same of a whole settling call, whatever its limit.
+-- "a settling step changes no answer": nor does a settling call, whatever its limit.
 pub settling-keeps-answers : (table : Table) → isTable table ≡ true → (limit o v : ℕ) →
     isInByRows (kindIn (table .header) o) o v (rowsSettled table limit) ≡ isInByRows (kindIn (table .header) o) o v (table .rows)
 unfolding rowsSettled
@@ -351,7 +369,7 @@ settling-keeps-answers table e limit o v =
     (λ above below u _ h. (step-facts table above below u (h .0), step-at-keeps table above below u (h .0) o v ∙ h .1))
     limit (table .rows) (facts table e .row-facts, refl) .1
 
--- Every question gets the reply that it got before: total, flag, list, count and holding, refusals included.
+-- "changes no answer": every question, total, flag, list, count and holding, gets the reply that it got before, refusals included.
 pub settling-keeps-replies : (table : Table) → isTable table ≡ true → (limit room : ℕ) (asked : Asked) → ask (withRows table (rowsSettled table limit)) room asked ≡ ask table room asked
 unfolding ask byRows countByRows
 settling-keeps-replies table e limit room asked = replies-alike (table .header) (byRows (withRows table (rowsSettled table limit))) (byRows table) room asked (λ _. record {

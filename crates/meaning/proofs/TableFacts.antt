@@ -119,6 +119,7 @@ row-in table row f =
     (λ s. rw (s, lt-ltb (u .sender) (table .header .size) (f .sender-in s), eq-eqb (length (u .vector)) (table .header .size) (f .vector-length s), f .below-clock s) (le-leb 1 (numberOf u) (f .numbered s))) in
     rw (lt-ltb (u .object) (length (table .header .kinds)) (f .declared), f .is-storable, f .value-allowed, only) tag
 
+-- the entry at a place of a list of which every entry meets a test
 pub every-place : (p : ℕ → Bool) (l : List ℕ) → every p l ≡ true → (i : ℕ) → i < length l → p (getD l i 0) ≡ true
 every-place p [] e i h = absurd (not-suc-le-zero h)
 every-place p (y ∷ l) e zero h = and-left (p y) (every p l) e

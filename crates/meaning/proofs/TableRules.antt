@@ -474,7 +474,7 @@ kept-by-frame table frame is e =
           rw (getD-set-other (table .last) (u .sender) k (u .vector) [] d) (last-elsewhere table u last′ k (getD (table .last) k []) d (F .last-rule k h)));
     }))
 
--- The same of an accepted local operation.
+-- "each call keeps the rules": an accepted local operation.
 pub kept-by-local : (table : Table) (local : Local) → isTable table ≡ true → refusalOfLocal table local ≡ 0 → isTable (afterArrival table (issuedBy table local) (table .last)) ≡ true
 unfolding issuedBy
 kept-by-local table local is e =
@@ -509,7 +509,7 @@ step-length kind above below u =
     let c : length (cond (becomesSettled kind u (above ++ below)) (settledRow u ∷ []) []) ≤ 1 = cases (becomesSettled kind u (above ++ below)) (λ q. rw q (omega arith)) (λ q. rw q (omega arith)) in
     simp length-append (omega arith)
 
--- The same of one settling step, at an unsettled row.
+-- "each call keeps the rules": one settling step, at an unsettled row.
 pub kept-by-step : (table : Table) (above below : List Row) (u : Operation) → isTable (withRows table (above ++ (unsettledRow u ∷ below))) ≡ true → isTable (withRows table (stepAt (kindIn (table .header) (u .object)) above u below)) ≡ true
 unfolding lastRule totalRule
 kept-by-step table above below u is =
@@ -534,7 +534,7 @@ kept-by-step table above below u is =
       one-row = single-one-row (kindIn (table .header)) rows′ (step-single (kindIn (table .header)) kind above below u (one-row-single (kindIn (table .header)) rows (F .one-row)));
     })
 
--- The same of a whole settling call.
+-- "each call keeps the rules": a settling call.
 pub kept-by-settling : (table : Table) (limit : ℕ) → isTable table ≡ true → isTable (withRows table (rowsSettled table limit)) ≡ true
 unfolding rowsSettled
 kept-by-settling table limit is = steps-elim (λ (rows : List Row). isTable (withRows table rows) ≡ true) (kindIn (table .header)) (low table) (λ above below u _ h. kept-by-step table above below u h) limit (table .rows) is
@@ -593,7 +593,7 @@ unfolding afterAll
 all-kept [] station is = is
 all-kept (event ∷ events) station is = all-kept events (after event station) (kept event station is)
 
--- Every table that calls can reach meets the rules: "Table rules: header in opening's ranges; ...".
+-- "Table rules": every table that calls can reach from an opening meets them.
 pub reached : (header : Header) (events : List Event) → inRange header ≡ true → isTable (reachedStation header events .table) ≡ true
 unfolding reachedStation
 reached header events e = all-kept events (record { table = opened header; accepted = [] }) (opened-is-table header e)
