@@ -1,7 +1,7 @@
--- "P1 to P11 are proved together, as one tabulated statement".
+-- "P1 to P11 are proved together, as one tabulated statement": the lines of the document, and the histories that tell the shortcuts apart.
 use mathlib.Core.Path.{_≡_, refl, sym, _∙_, ap}
 use mathlib.Core.Logic.{⊎-elim}
-use mathlib.Core.List.{List, [], _∷_, map, List·Memᴰ, List·Memᴰ·cases-cons}
+use mathlib.Core.List.{List, [], _∷_, _++_, map, List·Memᴰ, List·Memᴰ·cases-cons}
 use Rattle.meaning.specs.Tests.{between}
 use Rattle.meaning.specs.Order.{beforeByVector}
 use Rattle.meaning.specs.Operations.{numberOf, before, isCounter, isFlag, removesStand, codesOf, codeAllowed, valueAllowed, allowed}
@@ -14,10 +14,10 @@ use Rattle.meaning.specs.Questions.{fits, byRows, byDefinition, answerFr
 use Rattle.meaning.specs.Refusals.{wellShaped, declared, operationAllowed, inTime, frameRefusals, roomFor, arrivalRefusals, refusalOfFrame, issuedBy, localRefusals, refusalOfLocal, settlingRefusals, refusalOfSettling, wellAsked, listTooLong, questionRefusals}
 use Rattle.meaning.specs.Calls.{afterArrival, outcome, receive, issue, rowsSettled, steps, settle, replyOf, askOf, ask, meant}
 use Rattle.meaning.specs.History.{afterOutcome, afterSettling, after, afterAll, reached}
-use Rattle.meaning.specs.Papers.{Paper, Result, resultOf, saidOf, papers}
+use Rattle.meaning.specs.Papers.{Paper, Result, resultOf, saidOf, papers, shortcuts, session, sessionSaid}
 
-pub all-right : map resultOf papers ≡ map saidOf papers
-unfolding resultOf saidOf papers between beforeByVector numberOf before isCounter isFlag removesStand codesOf codeAllowed valueAllowed allowed of on addOf removeOf clearOf ends survives stands inGrowSet inTwoPhaseSet inBySurvival inByStanding isIn totalOf valuesNamed listOf countOf keyOf lowerRow removeRowsCount isInByRows listByRows countByRows concerns rowBefore takenBy getsRow withRow taggedArrival sameValue settledArrival rowsAfter amountOf totalsAfter stableBy due addBeside removeBeside becomesSettled droppedWith leftBy stepAt kindIn low stable zeros opened fits byRows byDefinition answerFrom wellShaped declared operationAllowed inTime frameRefusals roomFor arrivalRefusals refusalOfFrame issuedBy localRefusals refusalOfLocal settlingRefusals refusalOfSettling wellAsked listTooLong questionRefusals afterArrival outcome receive issue rowsSettled steps settle replyOf askOf ask meant afterOutcome afterSettling after afterAll reached
+pub all-right : map resultOf (papers ++ shortcuts) ≡ map saidOf (papers ++ shortcuts)
+unfolding resultOf saidOf papers shortcuts between beforeByVector numberOf before isCounter isFlag removesStand codesOf codeAllowed valueAllowed allowed of on addOf removeOf clearOf ends survives stands inGrowSet inTwoPhaseSet inBySurvival inByStanding isIn totalOf valuesNamed listOf countOf keyOf lowerRow removeRowsCount isInByRows listByRows countByRows concerns rowBefore takenBy getsRow withRow taggedArrival sameValue settledArrival rowsAfter amountOf totalsAfter stableBy due addBeside removeBeside becomesSettled droppedWith leftBy stepAt kindIn low stable zeros opened fits byRows byDefinition answerFrom wellShaped declared operationAllowed inTime frameRefusals roomFor arrivalRefusals refusalOfFrame issuedBy localRefusals refusalOfLocal settlingRefusals refusalOfSettling wellAsked listTooLong questionRefusals afterArrival outcome receive issue rowsSettled steps settle replyOf askOf ask meant afterOutcome afterSettling after afterAll reached
 all-right = refl
 
 -- two lists that are made alike are alike at each member
@@ -32,5 +32,10 @@ map-at f g (y ∷ l) e x m = ⊎-elim (λ q. ap f q ∙ heads ∙ sym (ap g q)) 
     tails = cc
 
 -- "P1 to P11 are proved together": each line of the table comes to what the document says of it.
-pub each-right : (paper : Paper) → List·Memᴰ paper papers → resultOf paper ≡ saidOf paper
-each-right paper m = map-at resultOf saidOf papers all-right paper m
+pub each-right : (paper : Paper) → List·Memᴰ paper (papers ++ shortcuts) → resultOf paper ≡ saidOf paper
+each-right paper m = map-at resultOf saidOf (papers ++ shortcuts) all-right paper m
+
+-- "The whole of one session, input then output": refusals, answers, the issued frame, the step count and the table of its saved form.
+pub session-right : session ≡ sessionSaid
+unfolding session sessionSaid between beforeByVector numberOf before isCounter isFlag removesStand codesOf codeAllowed valueAllowed allowed of on addOf removeOf clearOf ends survives stands inGrowSet inTwoPhaseSet inBySurvival inByStanding isIn totalOf valuesNamed listOf countOf keyOf lowerRow removeRowsCount isInByRows listByRows countByRows concerns rowBefore takenBy getsRow withRow taggedArrival sameValue settledArrival rowsAfter amountOf totalsAfter stableBy due addBeside removeBeside becomesSettled droppedWith leftBy stepAt kindIn low stable zeros opened fits byRows byDefinition answerFrom wellShaped declared operationAllowed inTime frameRefusals roomFor arrivalRefusals refusalOfFrame issuedBy localRefusals refusalOfLocal settlingRefusals refusalOfSettling wellAsked listTooLong questionRefusals afterArrival outcome receive issue rowsSettled steps settle replyOf askOf ask meant afterOutcome afterSettling after afterAll reached
+session-right = refl

@@ -1,25 +1,26 @@
 -- The document's histories P1 to P11, as one table.
 use mathlib.Core.Bool.{Bool, true, false}
 use mathlib.Core.List.{List, [], _∷_, _++_}
-use Prim.Native.Nat.{ℕ, suc}
+use Prim.Native.Nat.{ℕ, zero, suc, pred}
+use lib.IntN.{pos}
 use lib.ListN.{length}
 use Rattle.meaning.specs.Order.{Vector, raised}
 use Rattle.meaning.specs.Operations.{Operation, adds, removes, clears, growCounter, twoPhaseSet, enableWinsFlag, disableWinsFlag, multiValueRegister, addWinsSet, removeWinsSet}
-use Rattle.meaning.specs.Rows.{unsettledCount}
+use Rattle.meaning.specs.Rows.{unsettledRow, unsettledCount}
 use Rattle.meaning.specs.Table.{Header, Table, low, stable}
 use Rattle.meaning.specs.Questions.{Asked, Answer, flag, list, count, holds, asksFlag, asksList, asksCount, asksHolds}
-use Rattle.meaning.specs.Refusals.{Frame, Local, greatestLimit}
-use Rattle.meaning.specs.Calls.{Reply, answered, ask, meant}
+use Rattle.meaning.specs.Refusals.{Frame, Local, refusalOfFrame, refusalOfLocal, greatestLimit}
+use Rattle.meaning.specs.Calls.{Reply, answered, steps, ask, meant}
 use Rattle.meaning.specs.History.{Event, receives, issues, settles, Station, afterAll, reached}
 
--- A line of the table. A roll: the kind of object 0, what happens to it, the question and its answer. A low: a table, its Low, and an
--- operation that is stable and one that isn't.
+-- A line of the table. A roll: the group's size, the kind of object 0, how many operations it takes, what happens, the question and its
+-- answer. A low: a table, its Low, and an operation that is stable and one that isn't.
 pub data Paper : Type 0 where
-  roll : (kind : ℕ) → List Event → Asked → Answer → Paper
+  roll : (size kind operations : ℕ) → List Event → Asked → Answer → Paper
   lows : Table → Vector → Operation → Operation → Paper
 
--- What a line comes to: how many operations were accepted and how many rows are unsettled in the end, and the replies to the question,
--- by rows and by the definitions, before and after full settling.
+-- What a line comes to: how many operations were accepted, how many rows are unsettled in the end, and the replies to the question, by
+-- rows and by the definitions: at once, after settling what is stable, and after full settling.
 pub data Result : Type 0 where
   replies : (accepted unsettled : ℕ) → List Reply → Result
   lowIs : Vector → Bool → Bool → Result
@@ -31,42 +32,50 @@ pupil = 7
 abbrev pub room : ℕ
 room = 4
 
-abbrev pub group : ℕ → Header
-group kind = record { size = 2; own = 0; capacity = 4; kinds = kind ∷ growCounter ∷ [] }
+abbrev pub group : ℕ → ℕ → Header
+group size kind = record { size = size; own = 0; capacity = 4; kinds = kind ∷ growCounter ∷ [] }
 
--- An operation of ours on object 0, and one of station 1.
-abbrev pub ours : ℕ → ℕ → Event
-ours code value = issues (record { object = 0; code = code; value = value })
+-- An operation of ours on an object, and one of another station.
+abbrev pub ours : ℕ → ℕ → ℕ → Event
+ours object code value = issues (record { object = object; code = code; value = value })
 
-abbrev pub frameOf : ℕ → ℕ → ℕ → Vector → Frame
-frameOf object code value vector =
-    record { size = 2; operation = record { object = object; code = code; value = value; sender = 1; vector = vector } }
+abbrev pub frameOf : ℕ → ℕ → ℕ → ℕ → Vector → Frame
+frameOf sender object code value vector =
+    record { size = length vector; operation = record { object = object; code = code; value = value; sender = sender; vector = vector } }
 
-abbrev pub theirs : ℕ → ℕ → Vector → Event
-theirs code value vector = receives (frameOf 0 code value vector)
+abbrev pub theirs : ℕ → ℕ → ℕ → ℕ → Vector → Event
+theirs sender object code value vector = receives (frameOf sender object code value vector)
 
 abbrev pub asking : ℕ → ℕ → Asked
 asking question value = record { object = 0; question = question; value = value }
 
--- Station 1 has seen all of it and counts one: with that frame every row is stable, and the settling call settles all.
-abbrev pub calm : Station → List Event
-calm station = receives (frameOf 1 adds 1 (raised (station .table .clock) 1)) ∷ settles greatestLimit ∷ []
+-- Every other station, the last first, has seen all of it and counts one: with their frames every row is stable, and the settling call
+-- settles all.
+abbrev pub seenBy : ℕ → Vector → List Event
+seenBy zero clock = []
+seenBy (suc others) clock = theirs (suc others) 1 adds 1 (raised clock (suc others)) ∷ seenBy others (raised clock (suc others))
 
-abbrev pub bothReplies : Header → Station → Asked → List Reply
-bothReplies header station asked = ask (station .table) room asked ∷ meant header (station .accepted) room asked ∷ []
+abbrev pub bothReplies : Header → Asked → Station → List Reply
+bothReplies header asked station = ask (station .table) room asked ∷ meant header (station .accepted) room asked ∷ []
+
+abbrev pub settleAll : List Event
+settleAll = settles greatestLimit ∷ []
 
 unfoldable pub resultOf : Paper → Result
-resultOf (roll kind events asked answer) =
-    let station = reached (group kind) events in
-    let settled = afterAll (calm station) station in
-    replies (length (station .accepted)) (unsettledCount (settled .table .rows))
-    (bothReplies (group kind) station asked ++ bothReplies (group kind) settled asked)
+resultOf (roll size kind operations events asked answer) =
+    let header = group size kind in
+    let atOnce = reached header events in
+    let settled = afterAll settleAll atOnce in
+    let calm = afterAll (seenBy (pred size) (settled .table .clock) ++ settleAll) settled in
+    replies (length (atOnce .accepted)) (unsettledCount (calm .table .rows))
+    (bothReplies header asked atOnce ++ (bothReplies header asked settled ++ bothReplies header asked calm))
 resultOf (lows table vector u t) = lowIs (low table) (stable table u) (stable table t)
 
 -- What the document says: every operation of the line is accepted, no row is left unsettled, and the answer is one and the same.
 unfoldable pub saidOf : Paper → Result
-saidOf (roll kind events asked answer) =
-    replies (length events) 0 (answered answer ∷ answered answer ∷ answered answer ∷ answered answer ∷ [])
+saidOf (roll size kind operations events asked answer) =
+    let reply = answered answer in
+    replies operations 0 (reply ∷ reply ∷ reply ∷ reply ∷ reply ∷ reply ∷ [])
 saidOf (lows table vector u t) = lowIs vector true false
 
 -- The table of P11, and an operation with a vector.
@@ -82,22 +91,91 @@ threeStations = record {
 abbrev pub tagged : Vector → Operation
 tagged vector = record { object = 0; code = adds; value = 1; sender = 1; vector = vector }
 
-abbrev pub pair : ℕ → ℕ → Vector
-pair first second = first ∷ second ∷ []
+abbrev pub two : ℕ → ℕ → Vector
+two first second = first ∷ second ∷ []
 
--- P1 to P11, a line each; P10 is two.
+abbrev pub three : ℕ → ℕ → ℕ → Vector
+three first second third = first ∷ second ∷ third ∷ []
+
+abbrev pub isThere : Asked
+isThere = asking asksHolds pupil
+
+-- P1 to P11, a line each; P10 is two. P4 is the first of the shortcuts that give wrong rolls, P2 after settling the second.
 unfoldable pub papers : List Paper
 papers =
-    roll addWinsSet (ours adds pupil ∷ theirs removes pupil (pair 0 1) ∷ []) (asking asksHolds pupil) (holds true)
-    ∷ roll removeWinsSet (ours adds pupil ∷ theirs removes pupil (pair 0 1) ∷ []) (asking asksHolds pupil) (holds false)
-    ∷ roll addWinsSet (ours adds pupil ∷ theirs removes pupil (pair 1 1) ∷ []) (asking asksHolds pupil) (holds false)
-    ∷ roll addWinsSet (ours adds pupil ∷ theirs adds pupil (pair 0 1) ∷ []) (asking asksCount 0) (count 1)
-    ∷ roll multiValueRegister (ours adds 4 ∷ theirs adds 9 (pair 0 1) ∷ []) (asking asksList 0) (list (4 ∷ 9 ∷ []))
-    ∷ roll multiValueRegister (ours adds 4 ∷ theirs adds 9 (pair 0 1) ∷ theirs adds 5 (pair 1 2) ∷ []) (asking asksList 0) (list (5 ∷ []))
-    ∷ roll removeWinsSet (ours removes pupil ∷ ours adds pupil ∷ theirs removes pupil (pair 0 1) ∷ theirs adds pupil (pair 0 2) ∷ []) (asking asksHolds pupil) (holds true)
-    ∷ roll removeWinsSet (ours removes pupil ∷ ours clears 0 ∷ theirs adds pupil (pair 0 1) ∷ []) (asking asksHolds pupil) (holds true)
-    ∷ roll twoPhaseSet (ours adds pupil ∷ ours removes pupil ∷ ours adds pupil ∷ []) (asking asksHolds pupil) (holds false)
-    ∷ roll enableWinsFlag (ours adds 0 ∷ theirs removes 0 (pair 0 1) ∷ []) (asking asksFlag 0) (flag true)
-    ∷ roll disableWinsFlag (ours adds 0 ∷ theirs removes 0 (pair 0 1) ∷ []) (asking asksFlag 0) (flag false)
-    ∷ lows threeStations (4 ∷ 3 ∷ 2 ∷ []) (tagged (4 ∷ 3 ∷ 2 ∷ [])) (tagged (4 ∷ 4 ∷ 2 ∷ []))
+    roll 2 addWinsSet 2 (ours 0 adds pupil ∷ theirs 1 0 removes pupil (two 0 1) ∷ []) isThere (holds true)
+    ∷ roll 2 removeWinsSet 2 (ours 0 adds pupil ∷ theirs 1 0 removes pupil (two 0 1) ∷ []) isThere (holds false)
+    ∷ roll 2 addWinsSet 2 (ours 0 adds pupil ∷ theirs 1 0 removes pupil (two 1 1) ∷ []) isThere (holds false)
+    ∷ roll 2 addWinsSet 2 (ours 0 adds pupil ∷ theirs 1 0 adds pupil (two 0 1) ∷ []) (asking asksCount 0) (count 1)
+    ∷ roll 2 multiValueRegister 2 (ours 0 adds 4 ∷ theirs 1 0 adds 9 (two 0 1) ∷ []) (asking asksList 0) (list (4 ∷ 9 ∷ []))
+    ∷ roll 2 multiValueRegister 3 (ours 0 adds 4 ∷ theirs 1 0 adds 9 (two 0 1) ∷ theirs 1 0 adds 5 (two 1 2) ∷ []) (asking asksList 0) (list (5 ∷ []))
+    ∷ roll 2 removeWinsSet 4 (ours 0 removes pupil ∷ ours 0 adds pupil ∷ theirs 1 0 removes pupil (two 0 1) ∷ theirs 1 0 adds pupil (two 0 2) ∷ []) isThere (holds true)
+    ∷ roll 2 removeWinsSet 3 (ours 0 removes pupil ∷ ours 0 clears 0 ∷ theirs 1 0 adds pupil (two 0 1) ∷ []) isThere (holds true)
+    ∷ roll 2 twoPhaseSet 3 (ours 0 adds pupil ∷ ours 0 removes pupil ∷ ours 0 adds pupil ∷ []) isThere (holds false)
+    ∷ roll 2 enableWinsFlag 2 (ours 0 adds 0 ∷ theirs 1 0 removes 0 (two 0 1) ∷ []) (asking asksFlag 0) (flag true)
+    ∷ roll 2 disableWinsFlag 2 (ours 0 adds 0 ∷ theirs 1 0 removes 0 (two 0 1) ∷ []) (asking asksFlag 0) (flag false)
+    ∷ lows threeStations (three 4 3 2) (tagged (three 4 3 2)) (tagged (three 4 4 2))
     ∷ []
+
+-- Two histories more, of three stations. The third shortcut: the remove skips an entry, so no chain leads from our add to it. And the
+-- stability test of the source document, by the sender's entry alone: the add is not stable, though its sender's entry is.
+unfoldable pub shortcuts : List Paper
+shortcuts =
+    roll 3 addWinsSet 3 (ours 0 adds pupil ∷ theirs 1 0 adds pupil (three 1 1 0) ∷ theirs 2 0 removes pupil (three 0 1 1) ∷ []) isThere (holds true)
+    ∷ roll 3 addWinsSet 4 (ours 1 adds 1 ∷ theirs 2 0 adds pupil (three 1 0 1) ∷ theirs 1 1 adds 1 (three 0 1 1) ∷ settles 1 ∷ theirs 1 0 removes pupil (three 0 2 1) ∷ []) isThere (holds true)
+    ∷ []
+
+-- The worked session, up to its saved form: N = 2, own 0, capacity 4, one add-wins set.
+pub record Session : Type 0 where
+  pub refusals : List ℕ
+  pub answers : List Reply
+  pub stepsReported : ℕ
+  pub accepted : List Operation
+  pub table : Table
+
+abbrev pub sessionHeader : Header
+sessionHeader = record { size = 2; own = 0; capacity = 4; kinds = addWinsSet ∷ [] }
+
+-- "21000100000007", "2002010001000000070000000000000001" and "2002010002000000070000000000000002".
+abbrev pub sessionLocal : Local
+sessionLocal = record { object = 0; code = adds; value = pupil }
+
+abbrev pub sessionAdd : Frame
+sessionAdd = frameOf 1 0 adds pupil (two 0 1)
+
+abbrev pub sessionRemove : Frame
+sessionRemove = frameOf 1 0 removes pupil (two 0 2)
+
+unfoldable pub session : Session
+session =
+    let issued = reached sessionHeader (issues sessionLocal ∷ []) in
+    let added = afterAll (receives sessionAdd ∷ []) issued in
+    let removed = afterAll (receives sessionRemove ∷ []) added in
+    let settled = afterAll (settles 10 ∷ []) removed in
+    let again = afterAll (receives sessionRemove ∷ []) settled in
+    record {
+      refusals = refusalOfLocal (reached sessionHeader [] .table) sessionLocal ∷ refusalOfFrame (issued .table) sessionAdd ∷ refusalOfFrame (added .table) sessionRemove ∷ refusalOfFrame (settled .table) sessionRemove ∷ [];
+      answers = ask (added .table) room (asking asksCount 0) ∷ ask (removed .table) room (asking asksList 0) ∷ [];
+      stepsReported = steps (removed .table) 10;
+      accepted = again .accepted;
+      table = again .table;
+    }
+
+abbrev pub issuedThere : Operation
+issuedThere = record { object = 0; code = adds; value = pupil; sender = 0; vector = two 1 0 }
+
+-- What the session prints: "00", the issued frame, "00", "000001", "00", "00000100000007", "000000", "ff05", and the saved form.
+unfoldable pub sessionSaid : Session
+sessionSaid = record {
+  refusals = 0 ∷ 0 ∷ 0 ∷ 5 ∷ [];
+  answers = answered (count 1) ∷ answered (list (pupil ∷ [])) ∷ [];
+  stepsReported = 0;
+  accepted = sessionRemove .operation ∷ sessionAdd .operation ∷ issuedThere ∷ [];
+  table = record {
+    header = sessionHeader;
+    clock = two 1 2;
+    last = two 0 0 ∷ two 0 2 ∷ [];
+    totals = pos 0 ∷ [];
+    rows = unsettledRow issuedThere ∷ [];
+  };
+}
