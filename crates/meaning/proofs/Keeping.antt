@@ -179,4 +179,3 @@ answer3 o v accepted rows I = I .adds ∙ rw (I .grows refl) (go (any (addOf o v
     go : (a : Bool) → (a && true) ≡ a
     go true = refl
     go false = refl
-

@@ -16,3 +16,9 @@ pub mod Totals
 pub mod Histories
 pub mod Lists
 pub mod Asking
+pub mod Refusals
+pub mod Settling
+pub mod TableRules
+pub mod Order
+pub mod Demand3
+pub mod Agreement

@@ -245,4 +245,3 @@ module _ (o v : ℕ) where
   pub answer : (st : Operation → Bool) (accepted : List Operation) (rows : List Row) → Inv st accepted rows → (any (λ (r : Row). addOf o v (r .operation)) rows && not (any (λ (r : Row). removeOf o v (r .operation)) rows)) ≡ inByStanding o v accepted
   unfolding inByStanding Fit
   answer st accepted rows I = rw (split (addOf o v) rows, split (removeOf o v) rows) (ok-right (ub (addOf o v) rows) (ub (removeOf o v) rows) (fb (addOf o v) rows) (fb (removeOf o v) rows) (lb (addOf o v) accepted) (lb (removeOf o v) accepted) (I .fit))
-

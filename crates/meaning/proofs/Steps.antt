@@ -39,7 +39,7 @@ module _ (kc kk o v : ℕ) (w : Operation) (pre post : List Row) where
   }
 
   -- kinds 6, 9, another value
-  others : (q : Row → Bool) → ((r : Row) → q r ≡ true → on o v (r .operation) ≡ true) → on o v w ≡ false → any q (stepAt kk pre w post) ≡ any q (pre ++ (unsettledRow w ∷ post))
+  pub others : (q : Row → Bool) → ((r : Row) → q r ≡ true → on o v (r .operation) ≡ true) → on o v w ≡ false → any q (stepAt kk pre w post) ≡ any q (pre ++ (unsettledRow w ∷ post))
   others q qo n = iff (any q (stepAt kk pre w post)) (any q (pre ++ (unsettledRow w ∷ post)))
       (λ e. let s = any-out q (stepAt kk pre w post) e in ⊎-elim
       (λ m. any-in q m (s .2))
@@ -106,10 +106,10 @@ add-code o v u p = and-right (on o v u) (eqb (u .code) 1) p
 
 -- the tests of the rows after a step
 module _ (kk : ℕ) (w : Operation) (pre post : List Row) where
-  abbrev O : List Row
+  abbrev pub O : List Row
   O = pre ++ post
 
-  any-act : (p : Row → Bool) → any p (stepAt kk pre w post) ≡ ((becomesSettled kk w O && p (settledRow w)) || any (λ (x : Row). p x && not (droppedWith kk w O x)) O)
+  pub any-act : (p : Row → Bool) → any p (stepAt kk pre w post) ≡ ((becomesSettled kk w O && p (settledRow w)) || any (λ (x : Row). p x && not (droppedWith kk w O x)) O)
   unfolding stepAt leftBy
   any-act p = rw (any-append, any-append, any-those, any-those, any-append, one (becomesSettled kk w O)) (shuffle (any (λ (x : Row). p x && not (droppedWith kk w O x)) pre) (becomesSettled kk w O && p (settledRow w)) (any (λ (x : Row). p x && not (droppedWith kk w O x)) post))
     where
@@ -192,4 +192,3 @@ module _ (kc kk o v : ℕ) (w : Operation) (pre post : List Row) where
         c f)
         (λ p. others-fit kc kk o v w pre post accepted p f);
   }
-

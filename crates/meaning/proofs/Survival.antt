@@ -154,4 +154,3 @@ module _ (k o v : ℕ) where
 
   pub empty-inv : (st : Operation → Bool) → Inv st [] []
   empty-inv st = record { live = λ u m _. elim m [ ]; cover = λ u a. elim (a .in-log) [ ]; root = λ u m _. elim m [ ] }
-

@@ -1,13 +1,13 @@
 -- The table rules as facts: what a table that meets them is known to be, and that those facts are all that the rules ask.
-use mathlib.Core.Path.{_≡_, refl, sym, _∙_, ap, subst}
-use mathlib.Core.Bool.{Bool, true, false, not, _&&_, _||_, cond, false≢true}
+use mathlib.Core.Path.{_≡_, sym, _∙_, ap}
+use mathlib.Core.Bool.{Bool, true, false, not, _&&_, _||_, false≢true}
 use mathlib.Core.Logic.{⊎-elim}
 use mathlib.Core.List.{List, [], _∷_, List·Memᴰ}
-use Prim.Native.Nat.{ℕ, zero, suc, _+_, _<_, _≤_}
+use Prim.Native.Nat.{ℕ, zero, suc, _<_, _≤_}
 use native.Mathlib.Omega.{arith}
 use native.Mathlib.Nat.{le-of-suc-le-suc, not-suc-le-zero, zero-add}
 use lib.Dec.{leb, ltb, eqb}
-use lib.IntN.{ℤ, pos}
+use lib.IntN.{pos}
 use lib.ListN.{getD, length}
 use borrow.Author.Tests.{ltb-true, leb-true, eqb-true, lt-ltb, le-leb, eq-eqb}
 use Rattle.meaning.specs.Tests.{every, everyAt, between}
@@ -119,7 +119,8 @@ row-in table row f =
     (λ s. rw (s, lt-ltb (u .sender) (table .header .size) (f .sender-in s), eq-eqb (length (u .vector)) (table .header .size) (f .vector-length s), f .below-clock s) (le-leb 1 (numberOf u) (f .numbered s))) in
     rw (lt-ltb (u .object) (length (table .header .kinds)) (f .declared), f .is-storable, f .value-allowed, only) tag
 
-every-place : (p : ℕ → Bool) (l : List ℕ) → every p l ≡ true → (i : ℕ) → i < length l → p (getD l i 0) ≡ true
+-- the entry at a place of a list of which every entry meets a test
+pub every-place : (p : ℕ → Bool) (l : List ℕ) → every p l ≡ true → (i : ℕ) → i < length l → p (getD l i 0) ≡ true
 every-place p [] e i h = absurd (not-suc-le-zero h)
 every-place p (y ∷ l) e zero h = and-left (p y) (every p l) e
 every-place p (y ∷ l) e (suc i) h = every-place p l (and-right (p y) (every p l) e) i (le-of-suc-le-suc h)
