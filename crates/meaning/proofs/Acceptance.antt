@@ -16,11 +16,7 @@ use Rattle.meaning.specs.Table.{Header, Table, kindIn}
 use Rattle.meaning.specs.Refusals.{Refusal, _when_, firstOf, Frame, Local, wellShaped, declared, operationAllowed, inTime, frameRefusals, roomFor, arrivalRefusals, refusalOfFrame, issuedBy, localRefusals, refusalOfLocal}
 use Rattle.meaning.proofs.Tests.{cases, clash, and-left, and-right, or-left-fails, or-right-fails, not-holds}
 use Rattle.meaning.proofs.Vectors.{at-most-at, raised-at}
-
--- with no refusal at all, the first is not given, and the rest give none
-first-none : (number : ℕ) (given : Bool) (rest : List Refusal) → 0 < number → firstOf ((number when given) ∷ rest) ≡ 0 → (given ≡ false) × (firstOf rest ≡ 0)
-first-none number true rest h e = absurd (omega arith)
-first-none number false rest h e = (refl, e)
+use Rattle.meaning.proofs.Refusals.{exactly-when}
 
 not-not : (b : Bool) → not b ≡ false → b ≡ true
 not-not true e = refl
@@ -44,38 +40,25 @@ unfolding refusalOfFrame arrivalRefusals frameRefusals wellShaped declared inTim
 frame-accepted table frame e =
     let u = frame .operation in
     let header = table .header in
-    let shape = wellShaped header frame in
-    let from8 = (8 when not (roomFor table u)) ∷ [] in
-    let from7 = (7 when not (atMost (getD (table .last) (u .sender) []) (u .vector))) ∷ from8 in
-    let from6 = (6 when not (inTime (table .clock) u)) ∷ from7 in
-    let from5 = (5 when leb (numberOf u) (getD (table .clock) (u .sender) 0)) ∷ from6 in
-    let from4 = (4 when not (operationAllowed header u)) ∷ from5 in
-    let from3 = (3 when not (declared header (u .object))) ∷ from4 in
-    let from2 = (2 when (not (ltb (u .sender) (header .size)) || eqb (u .sender) (header .own))) ∷ from3 in
-    let no1 = first-none 1 (not shape) from2 (omega arith) e in
-    let no2 = first-none 2 (not (ltb (u .sender) (header .size)) || eqb (u .sender) (header .own)) from3 (omega arith) (no1 .1) in
-    let no3 = first-none 3 (not (declared header (u .object))) from4 (omega arith) (no2 .1) in
-    let no4 = first-none 4 (not (operationAllowed header u)) from5 (omega arith) (no3 .1) in
-    let no5 = first-none 5 (leb (numberOf u) (getD (table .clock) (u .sender) 0)) from6 (omega arith) (no4 .1) in
-    let no6 = first-none 6 (not (inTime (table .clock) u)) from7 (omega arith) (no5 .1) in
-    let no7 = first-none 7 (not (atMost (getD (table .last) (u .sender) []) (u .vector))) from8 (omega arith) (no6 .1) in
-    let no8 = first-none 8 (not (roomFor table u)) [] (omega arith) (no7 .1) in
-    let is-shaped = not-not shape (no1 .0) in
+    let none = exactly-when .frame table frame .exactly .none-when e in
+    let one = eqb (frame .size) (header .size) in
     let long = eqb (length (u .vector)) (header .size) in
     let small = every (λ (entry : ℕ). ltb entry entryLimit) (u .vector) in
-    let rest = and-right (eqb (frame .size) (header .size)) (long && small) is-shaped in
+    let there = ltb (u .sender) (header .size) in
+    let shaped = not-not (one && (long && small)) (none 0) in
+    let rest = and-right one (long && small) shaped in
     record {
-      size-is = eqb-true (frame .size) (header .size) (and-left (eqb (frame .size) (header .size)) (long && small) is-shaped);
+      size-is = eqb-true (frame .size) (header .size) (and-left one (long && small) shaped);
       entries = eqb-true (length (u .vector)) (header .size) (and-left long small rest);
       words = and-right long small rest;
-      sender-in = ltb-true (u .sender) (header .size) (not-not (ltb (u .sender) (header .size)) (or-left-fails (not (ltb (u .sender) (header .size))) (eqb (u .sender) (header .own)) (no2 .0)));
-      not-own = eqb-false (u .sender) (header .own) (or-right-fails (not (ltb (u .sender) (header .size))) (eqb (u .sender) (header .own)) (no2 .0));
-      declared-object = ltb-true (u .object) (length (header .kinds)) (not-not (declared header (u .object)) (no3 .0));
-      allowed-operation = not-not (operationAllowed header u) (no4 .0);
-      above = leb-false (numberOf u) (getD (table .clock) (u .sender) 0) (no5 .0);
-      in-time = not-not (inTime (table .clock) u) (no6 .0);
-      not-falling = not-not (atMost (getD (table .last) (u .sender) []) (u .vector)) (no7 .0);
-      room = leb-true (length (rowsAfter (kindIn header (u .object)) u (table .rows))) (header .capacity) (not-not (roomFor table u) (no8 .0));
+      sender-in = ltb-true (u .sender) (header .size) (not-not there (or-left-fails (not there) (eqb (u .sender) (header .own)) (none 1)));
+      not-own = eqb-false (u .sender) (header .own) (or-right-fails (not there) (eqb (u .sender) (header .own)) (none 1));
+      declared-object = ltb-true (u .object) (length (header .kinds)) (not-not (ltb (u .object) (length (header .kinds))) (none 2));
+      allowed-operation = not-not (operationAllowed header u) (none 3);
+      above = leb-false (numberOf u) (getD (table .clock) (u .sender) 0) (none 4);
+      in-time = not-not (atMost (u .vector) (raised (table .clock) (u .sender))) (none 5);
+      not-falling = not-not (atMost (getD (table .last) (u .sender) []) (u .vector)) (none 6);
+      room = leb-true (length (rowsAfter (kindIn header (u .object)) u (table .rows))) (header .capacity) (not-not (leb (length (rowsAfter (kindIn header (u .object)) u (table .rows))) (header .capacity)) (none 7));
     }
 
 -- refusals 5 and 6 leave one number: the next
@@ -99,16 +82,11 @@ unfolding refusalOfLocal localRefusals declared roomFor issuedBy
 local-accepted table local e =
     let u = issuedBy table local in
     let header = table .header in
-    let from8 = (8 when not (roomFor table u)) ∷ [] in
-    let from9 = (9 when eqb (suc (getD (table .clock) (header .own) 0)) entryLimit) ∷ from8 in
-    let from4 = (4 when not (operationAllowed header u)) ∷ from9 in
-    let no3 = first-none 3 (not (declared header (u .object))) from4 (omega arith) e in
-    let no4 = first-none 4 (not (operationAllowed header u)) from9 (omega arith) (no3 .1) in
-    let no9 = first-none 9 (eqb (suc (getD (table .clock) (header .own) 0)) entryLimit) from8 (omega arith) (no4 .1) in
-    let no8 = first-none 8 (not (roomFor table u)) [] (omega arith) (no9 .1) in
+    let none = exactly-when .local table local .exactly .none-when e in
+    let count = length (rowsAfter (kindIn header (u .object)) u (table .rows)) in
     record {
-      declared-object = ltb-true (u .object) (length (header .kinds)) (not-not (declared header (u .object)) (no3 .0));
-      allowed-operation = not-not (operationAllowed header u) (no4 .0);
-      not-last = eqb-false (suc (getD (table .clock) (header .own) 0)) entryLimit (no9 .0);
-      room = leb-true (length (rowsAfter (kindIn header (u .object)) u (table .rows))) (header .capacity) (not-not (roomFor table u) (no8 .0));
+      declared-object = ltb-true (u .object) (length (header .kinds)) (not-not (ltb (u .object) (length (header .kinds))) (none 0));
+      allowed-operation = not-not (operationAllowed header u) (none 1);
+      not-last = eqb-false (suc (getD (table .clock) (header .own) 0)) entryLimit (none 2);
+      room = leb-true count (header .capacity) (not-not (leb count (header .capacity)) (none 3));
     }

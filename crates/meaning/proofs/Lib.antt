@@ -9,6 +9,7 @@ pub mod Survival
 pub mod Standing
 pub mod Steps
 pub mod Keeping
+pub mod Refusals
 pub mod Acceptance
 pub mod TableFacts
 pub mod Arriving
@@ -16,7 +17,6 @@ pub mod Totals
 pub mod Histories
 pub mod Lists
 pub mod Asking
-pub mod Refusals
 pub mod Settling
 pub mod TableRules
 pub mod Order

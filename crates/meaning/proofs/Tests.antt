@@ -11,7 +11,7 @@ use lib.Dec.{leb}
 use lib.ListN.{getD, length}
 use Rattle.meaning.specs.Tests.{any, every, everyAt, those, allHold, between}
 -- Nothing of the histories is used here: the line has them checked before every law, so that a wrong rule is refused at a history first.
-use Rattle.meaning.specs.Papers.{all-right}
+use Rattle.meaning.specs.Papers.{papers}
 
 -- a case on a test, with the equation
 pub cases : {C : Type 0} (b : Bool) → (b ≡ true → C) → (b ≡ false → C) → C

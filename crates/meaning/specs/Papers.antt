@@ -9,7 +9,7 @@ use Rattle.meaning.specs.Tests.{between}
 use Rattle.meaning.specs.Order.{Vector, raised, beforeByVector}
 use Rattle.meaning.specs.Operations.{Operation, adds, removes, clears, growCounter, twoPhaseSet, enableWinsFlag, disableWinsFlag, multiValueRegister, addWinsSet, removeWinsSet, numberOf, before, isCounter, isFlag, removesStand, codesOf, codeAllowed, valueAllowed, allowed}
 use Rattle.meaning.specs.Meaning.{of, on, addOf, removeOf, clearOf, ends, survives, stands, inGrowSet, inTwoPhaseSet, inBySurvival, inByStanding, isIn, totalOf, valuesNamed, listOf, countOf}
-use Rattle.meaning.specs.Rows.{unsettledRow, unsettledCount, keyOf, lowerRow, removeRowsCount, isInByRows, listByRows, countByRows}
+use Rattle.meaning.specs.Rows.{Row, settledRow, unsettledRow, unsettledCount, keyOf, lowerRow, removeRowsCount, isInByRows, listByRows, countByRows}
 use Rattle.meaning.specs.Arrival.{concerns, rowBefore, takenBy, getsRow, withRow, taggedArrival, sameValue, settledArrival, rowsAfter, amountOf, totalsAfter}
 use Rattle.meaning.specs.Settling.{stableBy, due, addBeside, removeBeside, becomesSettled, droppedWith, leftBy, stepAt}
 use Rattle.meaning.specs.Table.{Header, Table, low, stable, kindIn, zeros, opened}
@@ -19,16 +19,15 @@ use Rattle.meaning.specs.Calls.{Reply, answered, steps, ask, meant, afte
 use Rattle.meaning.specs.History.{Event, receives, issues, settles, Station, afterAll, reached, afterOutcome, afterSettling, after}
 
 -- A line of the table. A roll: the group's size, the kind of object 0, how many operations it takes, what happens, the question and its
--- answer. A low: a table, its Low, and an operation that is stable and one that isn't.
+-- answer, and the rows that are left once all is settled. A low: a table, its Low, and an operation that is stable and one that isn't.
 pub data Paper : Type 0 where
-  roll : (size kind operations : ℕ) → List Event → Asked → Answer → Paper
+  roll : (size kind operations : ℕ) → List Event → Asked → Answer → List Row → Paper
   lows : Table → Vector → Operation → Operation → Paper
 
--- What a line comes to: how many operations were accepted, how many steps each of two settling calls reported, how many rows are unsettled
--- in the end, and the replies to the question, by rows and by the definitions: at once, after settling what is stable, and after full
--- settling.
+-- What a line comes to: how many operations were accepted, how many steps each of two settling calls reported, the rows in the end, and the
+-- replies to the question, by rows and by the definitions: at once, after settling what is stable, and after full settling.
 pub data Result : Type 0 where
-  replies : (accepted : ℕ) (reported : List ℕ) (unsettled : ℕ) → List Reply → Result
+  replies : (accepted : ℕ) (reported : List ℕ) → List Row → List Reply → Result
   lowIs : Vector → Bool → Bool → Result
 
 -- "N = 2 and value 7 unless said; vectors in brackets." We are station 0, object 1 is a counter.
@@ -85,21 +84,21 @@ abbrev pub whenSeen : ℕ → Station → Station
 whenSeen size station = let settled = settleAll station in afterAll (seenBy (pred size) (settled .table .clock)) settled
 
 unfoldable pub resultOf : Paper → Result
-resultOf (roll size kind operations events asked answer) =
+resultOf (roll size kind operations events asked answer rowsLeft) =
     let now = atOnce size kind events in
     let seen = whenSeen size now in
     let replyAt : Station → List Reply = bothReplies (group size kind) asked in
-    replies (length (now .accepted)) (reportedBy now ∷ reportedBy seen ∷ []) (unsettledIn (settleAll seen))
+    replies (length (now .accepted)) (reportedBy now ∷ reportedBy seen ∷ []) (settleAll seen .table .rows)
     (replyAt now ++ (replyAt (settleAll now) ++ replyAt (settleAll seen)))
 resultOf (lows table vector u t) = lowIs (low table) (stable table u) (stable table t)
 
--- What the document says: every operation of the line is accepted, the steps reported are the fall in unsettled rows, no row is left
--- unsettled, and the answer is one and the same.
+-- What the document says: every operation of the line is accepted, the steps reported are the fall in unsettled rows, the rows left are
+-- settled, and the answer is one and the same.
 unfoldable pub saidOf : Paper → Result
-saidOf (roll size kind operations events asked answer) =
+saidOf (roll size kind operations events asked answer rowsLeft) =
     let now = atOnce size kind events in
     let reply = answered answer in
-    replies operations (fallOf now ∷ fallOf (whenSeen size now) ∷ []) 0 (reply ∷ reply ∷ reply ∷ reply ∷ reply ∷ reply ∷ [])
+    replies operations (fallOf now ∷ fallOf (whenSeen size now) ∷ []) rowsLeft (reply ∷ reply ∷ reply ∷ reply ∷ reply ∷ reply ∷ [])
 saidOf (lows table vector u t) = lowIs vector true false
 
 -- The table of P11, and an operation with a vector.
@@ -121,33 +120,18 @@ two first second = first ∷ second ∷ []
 abbrev pub three : ℕ → ℕ → ℕ → Vector
 three first second third = first ∷ second ∷ third ∷ []
 
+-- A settled row of object 0.
+abbrev pub settledOf : ℕ → ℕ → Row
+settledOf code value = settledRow (record { object = 0; code = code; value = value; sender = 0; vector = [] })
+
+abbrev pub settledPupil : List Row
+settledPupil = settledOf adds pupil ∷ []
+
 abbrev pub isThere : Asked
 isThere = asking asksHolds pupil
 
--- P1 to P11, a line each; P10 is two. P4 is the first of the shortcuts that give wrong rolls, P2 after settling the second.
-unfoldable pub papers : List Paper
-papers =
-    roll 2 addWinsSet 2 (ours 0 adds pupil ∷ theirs 1 0 removes pupil (two 0 1) ∷ []) isThere (holds true)
-    ∷ roll 2 removeWinsSet 2 (ours 0 adds pupil ∷ theirs 1 0 removes pupil (two 0 1) ∷ []) isThere (holds false)
-    ∷ roll 2 addWinsSet 2 (ours 0 adds pupil ∷ theirs 1 0 removes pupil (two 1 1) ∷ []) isThere (holds false)
-    ∷ roll 2 addWinsSet 2 (ours 0 adds pupil ∷ theirs 1 0 adds pupil (two 0 1) ∷ []) (asking asksCount 0) (count 1)
-    ∷ roll 2 multiValueRegister 2 (ours 0 adds 4 ∷ theirs 1 0 adds 9 (two 0 1) ∷ []) (asking asksList 0) (list (4 ∷ 9 ∷ []))
-    ∷ roll 2 multiValueRegister 3 (ours 0 adds 4 ∷ theirs 1 0 adds 9 (two 0 1) ∷ theirs 1 0 adds 5 (two 1 2) ∷ []) (asking asksList 0) (list (5 ∷ []))
-    ∷ roll 2 removeWinsSet 4 (ours 0 removes pupil ∷ ours 0 adds pupil ∷ theirs 1 0 removes pupil (two 0 1) ∷ theirs 1 0 adds pupil (two 0 2) ∷ []) isThere (holds true)
-    ∷ roll 2 removeWinsSet 3 (ours 0 removes pupil ∷ ours 0 clears 0 ∷ theirs 1 0 adds pupil (two 0 1) ∷ []) isThere (holds true)
-    ∷ roll 2 twoPhaseSet 3 (ours 0 adds pupil ∷ ours 0 removes pupil ∷ ours 0 adds pupil ∷ []) isThere (holds false)
-    ∷ roll 2 enableWinsFlag 2 (ours 0 adds 0 ∷ theirs 1 0 removes 0 (two 0 1) ∷ []) (asking asksFlag 0) (flag true)
-    ∷ roll 2 disableWinsFlag 2 (ours 0 adds 0 ∷ theirs 1 0 removes 0 (two 0 1) ∷ []) (asking asksFlag 0) (flag false)
-    ∷ lows threeStations (three 4 3 2) (tagged (three 4 3 2)) (tagged (three 4 4 2))
-    ∷ []
-
--- Two histories more, of three stations. The third shortcut: the remove skips an entry, so no chain leads from our add to it. And the
--- stability test of the source document, by the sender's entry alone: the add is not stable, though its sender's entry is.
-unfoldable pub shortcuts : List Paper
-shortcuts =
-    roll 3 addWinsSet 3 (ours 0 adds pupil ∷ theirs 1 0 adds pupil (three 1 1 0) ∷ theirs 2 0 removes pupil (three 0 1 1) ∷ []) isThere (holds true)
-    ∷ roll 3 addWinsSet 4 (ours 1 adds 1 ∷ theirs 2 0 adds pupil (three 1 0 1) ∷ theirs 1 1 adds 1 (three 0 1 1) ∷ settles 1 ∷ theirs 1 0 removes pupil (three 0 2 1) ∷ []) isThere (holds true)
-    ∷ []
+abbrev pub Right : Paper → Type 0
+Right paper = resultOf paper ≡ saidOf paper
 
 -- The worked session, up to its saved form: N = 2, own 0, capacity 4, one add-wins set.
 pub record Session : Type 0 where
@@ -204,13 +188,45 @@ sessionSaid = record {
   };
 }
 
--- "P1 to P11 are proved together, as one tabulated statement." It stands beside the definitions, since it is computed from them alone: a wrong
--- rule is then refused first of all at a history that it gets wrong.
-pub all-right : map resultOf (papers ++ shortcuts) ≡ map saidOf (papers ++ shortcuts)
-unfolding resultOf saidOf papers shortcuts between beforeByVector numberOf before isCounter isFlag removesStand codesOf codeAllowed valueAllowed allowed of on addOf removeOf clearOf ends survives stands inGrowSet inTwoPhaseSet inBySurvival inByStanding isIn totalOf valuesNamed listOf countOf keyOf lowerRow removeRowsCount isInByRows listByRows countByRows concerns rowBefore takenBy getsRow withRow taggedArrival sameValue settledArrival rowsAfter amountOf totalsAfter stableBy due addBeside removeBeside becomesSettled droppedWith leftBy stepAt kindIn low stable zeros opened fits byRows byDefinition answerFrom wellShaped declared operationAllowed inTime frameRefusals roomFor arrivalRefusals refusalOfFrame issuedBy localRefusals refusalOfLocal settlingRefusals refusalOfSettling wellAsked listTooLong questionRefusals afterArrival outcome receive issue rowsSettled steps settle replyOf askOf ask meant afterOutcome afterSettling after afterAll reached
-all-right = refl
+-- "P1 to P11 are proved together, as one tabulated statement": a line each, P10 is two. P4 is the first of the shortcuts that give wrong
+-- rolls, P2 after settling the second. Two histories of three stations and the whole worked session stand below.
+pub record Papers : Type 0 where
+  pub p1 : Right (roll 2 addWinsSet 2 (ours 0 adds pupil ∷ theirs 1 0 removes pupil (two 0 1) ∷ []) isThere (holds true) settledPupil)
+  pub p2 : Right (roll 2 removeWinsSet 2 (ours 0 adds pupil ∷ theirs 1 0 removes pupil (two 0 1) ∷ []) isThere (holds false) [])
+  pub p3 : Right (roll 2 addWinsSet 2 (ours 0 adds pupil ∷ theirs 1 0 removes pupil (two 1 1) ∷ []) isThere (holds false) [])
+  pub p4 : Right (roll 2 addWinsSet 2 (ours 0 adds pupil ∷ theirs 1 0 adds pupil (two 0 1) ∷ []) (asking asksCount 0) (count 1) settledPupil)
+  pub p5 : Right (roll 2 multiValueRegister 2 (ours 0 adds 4 ∷ theirs 1 0 adds 9 (two 0 1) ∷ []) (asking asksList 0) (list (4 ∷ 9 ∷ [])) (settledOf adds 4 ∷ settledOf adds 9 ∷ []))
+  pub p6 : Right (roll 2 multiValueRegister 3 (ours 0 adds 4 ∷ theirs 1 0 adds 9 (two 0 1) ∷ theirs 1 0 adds 5 (two 1 2) ∷ []) (asking asksList 0) (list (5 ∷ [])) (settledOf adds 5 ∷ []))
+  pub p7 : Right (roll 2 removeWinsSet 4 (ours 0 removes pupil ∷ ours 0 adds pupil ∷ theirs 1 0 removes pupil (two 0 1) ∷ theirs 1 0 adds pupil (two 0 2) ∷ []) isThere (holds true) settledPupil)
+  pub p8 : Right (roll 2 removeWinsSet 3 (ours 0 removes pupil ∷ ours 0 clears 0 ∷ theirs 1 0 adds pupil (two 0 1) ∷ []) isThere (holds true) settledPupil)
+  pub p9 : Right (roll 2 twoPhaseSet 3 (ours 0 adds pupil ∷ ours 0 removes pupil ∷ ours 0 adds pupil ∷ []) isThere (holds false) (settledOf removes pupil ∷ []))
+  pub p10-enable-wins : Right (roll 2 enableWinsFlag 2 (ours 0 adds 0 ∷ theirs 1 0 removes 0 (two 0 1) ∷ []) (asking asksFlag 0) (flag true) (settledOf adds 0 ∷ []))
+  pub p10-disable-wins : Right (roll 2 disableWinsFlag 2 (ours 0 adds 0 ∷ theirs 1 0 removes 0 (two 0 1) ∷ []) (asking asksFlag 0) (flag false) [])
+  pub p11 : Right (lows threeStations (three 4 3 2) (tagged (three 4 3 2)) (tagged (three 4 4 2)))
+  -- The third shortcut: the remove skips an entry, so no chain leads from our add to it.
+  pub skipping : Right (roll 3 addWinsSet 3 (ours 0 adds pupil ∷ theirs 1 0 adds pupil (three 1 1 0) ∷ theirs 2 0 removes pupil (three 0 1 1) ∷ []) isThere (holds true) settledPupil)
+  -- The stability test of the source document, by the sender's entry alone: the add is not stable, though its sender's entry is.
+  pub by-sender-entry : Right (roll 3 addWinsSet 4 (ours 1 adds 1 ∷ theirs 2 0 adds pupil (three 1 0 1) ∷ theirs 1 1 adds 1 (three 0 1 1) ∷ settles 1 ∷ theirs 1 0 removes pupil (three 0 2 1) ∷ []) isThere (holds true) settledPupil)
+  pub worked-session : session ≡ sessionSaid
 
--- "The whole of one session, input then output": refusals, answers, the issued frame, the step count and the table of its saved form.
-pub session-right : session ≡ sessionSaid
-unfolding session sessionSaid between beforeByVector numberOf before isCounter isFlag removesStand codesOf codeAllowed valueAllowed allowed of on addOf removeOf clearOf ends survives stands inGrowSet inTwoPhaseSet inBySurvival inByStanding isIn totalOf valuesNamed listOf countOf keyOf lowerRow removeRowsCount isInByRows listByRows countByRows concerns rowBefore takenBy getsRow withRow taggedArrival sameValue settledArrival rowsAfter amountOf totalsAfter stableBy due addBeside removeBeside becomesSettled droppedWith leftBy stepAt kindIn low stable zeros opened fits byRows byDefinition answerFrom wellShaped declared operationAllowed inTime frameRefusals roomFor arrivalRefusals refusalOfFrame issuedBy localRefusals refusalOfLocal settlingRefusals refusalOfSettling wellAsked listTooLong questionRefusals afterArrival outcome receive issue rowsSettled steps settle replyOf askOf ask meant afterOutcome afterSettling after afterAll reached
-session-right = refl
+-- It stands beside the definitions, since it is computed from them alone: a wrong rule is then refused first of all at a history that it
+-- gets wrong, by its name.
+pub papers : Papers
+unfolding resultOf saidOf session sessionSaid between beforeByVector numberOf before isCounter isFlag removesStand codesOf codeAllowed valueAllowed allowed of on addOf removeOf clearOf ends survives stands inGrowSet inTwoPhaseSet inBySurvival inByStanding isIn totalOf valuesNamed listOf countOf keyOf lowerRow removeRowsCount isInByRows listByRows countByRows concerns rowBefore takenBy getsRow withRow taggedArrival sameValue settledArrival rowsAfter amountOf totalsAfter stableBy due addBeside removeBeside becomesSettled droppedWith leftBy stepAt kindIn low stable zeros opened fits byRows byDefinition answerFrom wellShaped declared operationAllowed inTime frameRefusals roomFor arrivalRefusals refusalOfFrame issuedBy localRefusals refusalOfLocal settlingRefusals refusalOfSettling wellAsked listTooLong questionRefusals afterArrival outcome receive issue rowsSettled steps settle replyOf askOf ask meant afterOutcome afterSettling after afterAll reached
+papers = record {
+  p1 = refl;
+  p2 = refl;
+  p3 = refl;
+  p4 = refl;
+  p5 = refl;
+  p6 = refl;
+  p7 = refl;
+  p8 = refl;
+  p9 = refl;
+  p10-enable-wins = refl;
+  p10-disable-wins = refl;
+  p11 = refl;
+  skipping = refl;
+  by-sender-entry = refl;
+  worked-session = refl;
+}
