@@ -1,0 +1,5 @@
+pub mod Pieces
+pub mod RowWords
+pub mod Whole
+pub mod Reading
+pub mod Spelling
