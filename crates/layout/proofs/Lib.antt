@@ -3,3 +3,4 @@ pub mod RowWords
 pub mod Whole
 pub mod Reading
 pub mod Spelling
+pub mod Changing

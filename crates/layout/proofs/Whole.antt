@@ -48,7 +48,7 @@ short-rows : (n : ℕ) (l : List (List ℕ)) → Wide (7 + n) l → Each (λ (r 
 short-rows n [] h = tt
 short-rows n (ws ∷ l) h = (short-row n ws (h .0), short-rows n l (h .1))
 
-back-each : {A B : Type 0} (g : A → B) (k : B → A) (l : List A) → map k (map g l) ≡ l → Each (λ (x : A). k (g x) ≡ x) l
+pub back-each : {A B : Type 0} (g : A → B) (k : B → A) (l : List A) → map k (map g l) ≡ l → Each (λ (x : A). k (g x) ≡ x) l
 back-each g k [] e = tt
 back-each g k (x ∷ l) e = (ap (λ t. getD t 0 x) e, back-each g k l (ap (drop 1) e))
 

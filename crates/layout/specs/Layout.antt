@@ -160,3 +160,13 @@ isSpelt words = leb (spaceFor (sizeIn words) (capacityIn words)) (length words) 
 -- What refusal 14 asks: "the space holds no table by the table rules".
 unfoldable pub holdsTable : List ℕ → Bool
 holdsTable words = isSpelt words && isTable (tableOf words)
+
+-- A table with one part changed.
+abbrev pub withClock : Table → Vector → Table
+withClock table clock = record { header = table .header; clock = clock; last = table .last; totals = table .totals; rows = table .rows }
+
+abbrev pub withLast : Table → List Vector → Table
+withLast table last = record { header = table .header; clock = table .clock; last = last; totals = table .totals; rows = table .rows }
+
+abbrev pub withTotals : Table → List ℤ → Table
+withTotals table totals = record { header = table .header; clock = table .clock; last = table .last; totals = totals; rows = table .rows }
