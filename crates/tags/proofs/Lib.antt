@@ -1,0 +1,4 @@
+pub mod Pairs
+pub mod Lessening
+pub mod Relations
+pub mod Places
