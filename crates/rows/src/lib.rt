@@ -20,19 +20,28 @@ pub struct Arrival {
 }
 
 const ADDS: u32 = 1;
+
 const CLEARS: u32 = 3;
 
 const GROW_COUNTER: u32 = 1;
+
 const UP_DOWN_COUNTER: u32 = 2;
+
 const GROW_SET: u32 = 3;
+
 const TWO_PHASE_SET: u32 = 4;
+
 const MULTI_VALUE_REGISTER: u32 = 7;
 
 // Where the words of a row stand.
 const OBJECT_AT: usize = 0;
+
 const HIGH_AT: usize = 1;
+
 const LOW_AT: usize = 2;
+
 const UNSETTLED_AT: usize = 4;
+
 const VECTOR_AT: usize = 7;
 
 // Whether a row is of the arrival's object and value.

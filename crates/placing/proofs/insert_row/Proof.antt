@@ -1,0 +1,47 @@
+use Rattle.placing.proofs.Placing.{place-low, key-room, vector-room, vector-fits, insertion}
+use native.Mathlib.Omega.{arith}
+use borrow.Author.Needs.{needs}
+use Rattle.placing.proofs.insert_row.Statement.{statement}
+use Rattle.placing.proofs.insert_row.Tie as tie
+use Rattle.placing.proofs.insert_row.Reads as reads
+use Rattle.placing.proofs.insert_row.Lts as lts
+use Rattle.moves.proofs.move_up.Reads as move-up-reads
+use Rattle.moves.proofs.put.Reads as put-reads
+use Rattle.placing.proofs.find_place.Reads as find-place-reads
+
+mul-end : tie.Need-mul-end
+mul-end c = search needs
+
+find-place-requires : tie.Need-find-place-requires
+find-place-requires c κs = search needs
+
+move-up-requires : tie.Need-move-up-requires
+move-up-requires c κs = (search place-low, search needs)
+
+put-requires : tie.Need-put-requires
+put-requires c κs = search key-room
+
+add-put : tie.Need-add-put
+add-put c = search (vector-fits, arith)
+
+put-requires-2 : tie.Need-put-requires-2
+put-requires-2 c κs = search vector-room
+
+same-length : tie.Need-same-length
+same-length c = search needs
+
+returns : tie.Need-returns
+returns c = search insertion
+
+pub insert-row-spec : {M : Type 1} → statement M
+insert-row-spec =
+    tie.close
+    (tie.spec
+    mul-end
+    find-place-requires
+    move-up-requires
+    put-requires
+    add-put
+    put-requires-2
+    same-length
+    returns)
