@@ -56,7 +56,7 @@ pub those-short : {A : Type 0} (f : A → Bool) (l : List A) → length (those f
 those-short f [] = omega arith
 those-short f (x ∷ l) = elim (f x) as (λ b. length (cond b (x ∷ those f l) (those f l)) ≤ suc (length l)) [ true ↦ omega (arith, those-short f l) | false ↦ omega (arith, those-short f l) ]
 
-zeros-drop : (m w : ℕ) (t : List ℕ) → w ≤ m → drop w (replicate m 0 ++ t) ≡ replicate (m - w) 0 ++ t
+pub zeros-drop : (m w : ℕ) (t : List ℕ) → w ≤ m → drop w (replicate m 0 ++ t) ≡ replicate (m - w) 0 ++ t
 zeros-drop m zero t h = let e : m - 0 ≡ m = omega arith in rw e refl
 zeros-drop zero (suc w) t h = absurd (omega arith)
 zeros-drop (suc m) (suc w) t h = let e : suc m - suc w ≡ m - w = omega arith in rw e (zeros-drop m w t (omega arith))

@@ -38,10 +38,10 @@ opened s n count T en ec =
     }
 
 -- the part from a place to the end
-all-of : (s : List ℕ) (a : ℕ) → take (length s - a) (drop a s) ≡ drop a s
+pub all-of : (s : List ℕ) (a : ℕ) → take (length s - a) (drop a s) ≡ drop a s
 all-of s a = take-all (length s - a) (drop a s) (simp length-drop (omega arith))
 
-nothing-behind : (s : List ℕ) (a : ℕ) → drop (length s - a) (drop a s) ≡ []
+pub nothing-behind : (s : List ℕ) (a : ℕ) → drop (length s - a) (drop a s) ≡ []
 nothing-behind s a = drop-of-length-le (drop a s) {i = length s - a} (simp length-drop (omega arith))
 
 -- rows dropped

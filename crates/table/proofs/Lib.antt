@@ -1,1 +1,3 @@
 pub mod Changing
+pub mod Inserting
+pub mod Parts

@@ -3,9 +3,9 @@ use mathlib.Core.Path.{_≡_}
 use mathlib.Core.Bool.{Bool, not}
 use mathlib.Core.List.{List, [], _∷_, _++_}
 use Prim.Native.Nat.{ℕ, _+_, _*_, _≤_, _<_}
-use lib.ListN.{length}
+use lib.ListN.{length, getD}
 use Rattle.meaning.specs.Tests.{those}
-use Rattle.meaning.specs.Order.{Vector}
+use Rattle.meaning.specs.Order.{Vector, entryLimit}
 use Rattle.meaning.specs.Rows.{Row}
 use Rattle.meaning.specs.Table.{Table}
 use Rattle.layout.specs.Layout.{Laid, rowsAt, rowWidth, sizeIn, capacityIn, countIn}
@@ -26,3 +26,7 @@ pub record Opened (words : List ℕ) (size count : ℕ) : Type 0 where
 -- The rows that stay when an operation arrives.
 unfoldable pub rowsLeft : Arrival → Vector → Table → List Row
 rowsLeft a vector table = those (λ (row : Row). not (goes (a .kind) (operationOf a vector) row)) (table .rows)
+
+-- The sender's number can rise: refusal 9, and a frame's entry, see to it.
+abbrev pub entryBelowLimit : Table → ℕ → Type 0
+entryBelowLimit table sender = getD (table .clock) sender 0 + 1 < entryLimit

@@ -1,22 +1,20 @@
 // A table in lent words, changed where it stands.
 ghost use mathlib.Core.Path.{_≡_};
-ghost use mathlib.Core.Bool.{not};
 ghost use mathlib.Core.List.{_++_};
 ghost use Prim.Native.Nat.{_+_, _<_};
 ghost use lib.ListN.{length, set};
-ghost use Rattle.meaning.specs.Tests.{those};
 ghost use Rattle.meaning.specs.Order.{raised};
 ghost use Rattle.meaning.specs.Rows.{insertRow};
 ghost use Rattle.meaning.specs.Calls.{withRows};
-ghost use Rattle.layout.specs.Layout.{rewritten, rowOf, rowWords, tableOf, withClock, withLast};
-ghost use Rattle.rows.specs.Arriving.{operationOf};
-ghost use Rattle.table.specs.Changes.{Opened, rowsLeft};
-
+ghost use Rattle.layout.specs.Layout.{capacityIn, rewritten, rowOf, rowWords, tableOf, withClock, withLast};
+ghost use Rattle.placing.specs.Placing.{keyWords};
+ghost use Rattle.table.specs.Changes.{entryBelowLimit, Opened, rowsLeft};
 use rows::Arrival;
 use tags::Station;
 
 // Where the parts of a table stand.
 const COUNT_AT: usize = 5;
+
 const CLOCK_AT: usize = 103;
 
 // A row's words before its vector.
@@ -32,4 +30,34 @@ pub fn drop_going(s: &mut [u32], size: usize, count: usize, a: Arrival, v: &[u32
     let left = rows::drop_rows(&mut s[base..], width, count, a, v);
     s[COUNT_AT] = left as u32;
     left
+}
+
+// Puts a row, its key and its vector, at its ordered place.
+pub fn put_row(s: &mut [u32], size: usize, count: usize, key: &[u32], v: &[u32])
+    requires { ⌜ Opened (now s) size count × (count < capacityIn (now s)) ⌝ }
+    requires { ⌜ (length (now key) ≡ keyWords) × (length (now v) ≡ size) × (rowWords size (rowOf (now key ++ now v)) ≡ now key ++ now v) ⌝ }
+    ensures { λ _. ⌜ now (s .exit) ≡ rewritten (now (s .entry)) (withRows (tableOf (now (s .entry))) (insertRow (rowOf (now (key .entry) ++ now (v .entry))) (tableOf (now (s .entry)) .rows))) ⌝ }
+{
+    let width = KEY + size;
+    let base = CLOCK_AT + size + size * size;
+    placing::insert_row(&mut s[base..], width, count, key, v);
+    s[COUNT_AT] = (count + 1) as u32;
+}
+
+// Advances the clock where it stands: "the last number accepted" of the sender is one higher.
+pub fn advance_clock(s: &mut [u32], size: usize, count: usize, sender: Station)
+    requires { ⌜ Opened (now s) size count × (sender .0 < size) × entryBelowLimit (tableOf (now s)) (sender .0) ⌝ }
+    ensures { λ _. ⌜ now (s .exit) ≡ rewritten (now (s .entry)) (withClock (tableOf (now (s .entry))) (raised (tableOf (now (s .entry)) .clock) (sender .0))) ⌝ }
+{
+    let end = CLOCK_AT + size;
+    tags::advance(&mut s[CLOCK_AT..end], sender);
+}
+
+// Writes the vector of the last frame accepted from a station.
+pub fn write_last(s: &mut [u32], size: usize, count: usize, station: Station, v: &[u32])
+    requires { ⌜ Opened (now s) size count × (station .0 < size) × (length (now v) ≡ size) ⌝ }
+    ensures { λ _. ⌜ now (s .exit) ≡ rewritten (now (s .entry)) (withLast (tableOf (now (s .entry))) (set (tableOf (now (s .entry)) .last) (station .0) (now (v .entry)))) ⌝ }
+{
+    let at = CLOCK_AT + size + tags::wide(station.0) * size;
+    moves::put(s, at, v);
 }
