@@ -21,7 +21,7 @@ use Rattle.layout.proofs.RowWords.{Spelt, row-written}
 use Rattle.layout.proofs.Reading.{in-a-row}
 
 -- two words are what would be written for the total that they spell
-code-read : (t : ℕ) → t < 18446744073709551616 → complement (ofComplement t) ≡ t
+pub code-read : (t : ℕ) → t < 18446744073709551616 → complement (ofComplement t) ≡ t
 unfolding complement ofComplement
 code-read t h = cases (ltb t 9223372036854775808) (λ p. rw p (omega arith)) (λ p. rw p (omega (arith, ltb-false t 9223372036854775808 p)))
 
