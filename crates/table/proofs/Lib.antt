@@ -1,3 +1,4 @@
 pub mod Changing
 pub mod Inserting
 pub mod Parts
+pub mod Totals

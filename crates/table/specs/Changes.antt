@@ -3,12 +3,14 @@ use mathlib.Core.Path.{_≡_}
 use mathlib.Core.Bool.{Bool, not}
 use mathlib.Core.List.{List, [], _∷_, _++_}
 use Prim.Native.Nat.{ℕ, _+_, _*_, _≤_, _<_}
-use lib.ListN.{length, getD}
+use lib.IntN.{ℤ, pos, _+ℤ_}
+use lib.ListN.{length, getD, set}
 use Rattle.meaning.specs.Tests.{those}
 use Rattle.meaning.specs.Order.{Vector, entryLimit}
 use Rattle.meaning.specs.Rows.{Row}
 use Rattle.meaning.specs.Table.{Table}
 use Rattle.layout.specs.Layout.{Laid, rowsAt, rowWidth, sizeIn, capacityIn, countIn}
+use Rattle.totals.specs.Changes.{change}
 use Rattle.rows.specs.Arriving.{operationOf, goes}
 use Rattle.rows.specs.declared.Arrival.{Arrival}
 
@@ -30,3 +32,7 @@ rowsLeft a vector table = those (λ (row : Row). not (goes (a .kind) (operationO
 -- The sender's number can rise: refusal 9, and a frame's entry, see to it.
 abbrev pub entryBelowLimit : Table → ℕ → Type 0
 entryBelowLimit table sender = getD (table .clock) sender 0 + 1 < entryLimit
+
+-- The totals with one of them changed.
+unfoldable pub totalsChanged : ℕ → ℕ → Bool → Table → List ℤ
+totalsChanged o amount increase table = set (table .totals) o (getD (table .totals) o (pos 0) +ℤ change increase amount)

@@ -6,14 +6,17 @@ ghost use lib.ListN.{length, set};
 ghost use Rattle.meaning.specs.Order.{raised};
 ghost use Rattle.meaning.specs.Rows.{insertRow};
 ghost use Rattle.meaning.specs.Calls.{withRows};
-ghost use Rattle.layout.specs.Layout.{capacityIn, rewritten, rowOf, rowWords, tableOf, withClock, withLast};
+ghost use Rattle.layout.specs.Layout.{capacityIn, objectsIn, rewritten, rowOf, rowWords, tableOf, withClock, withLast, withTotals};
 ghost use Rattle.placing.specs.Placing.{keyWords};
-ghost use Rattle.table.specs.Changes.{entryBelowLimit, Opened, rowsLeft};
+ghost use Rattle.table.specs.Changes.{entryBelowLimit, Opened, rowsLeft, totalsChanged};
 use rows::Arrival;
 use tags::Station;
+use totals::Total;
 
 // Where the parts of a table stand.
 const COUNT_AT: usize = 5;
+
+const TOTALS_AT: usize = 39;
 
 const CLOCK_AT: usize = 103;
 
@@ -60,4 +63,23 @@ pub fn write_last(s: &mut [u32], size: usize, count: usize, station: Station, v:
 {
     let at = CLOCK_AT + size + tags::wide(station.0) * size;
     moves::put(s, at, v);
+}
+
+// Changes the total of a counter where it stands.
+pub fn change_total(
+    s: &mut [u32],
+    size: usize,
+    count: usize,
+    object: usize,
+    amount: u32,
+    increase: bool,
+)
+    requires { ⌜ Opened (now s) size count × (object < objectsIn (now s)) ⌝ }
+    ensures { λ _. ⌜ now (s .exit) ≡ rewritten (now (s .entry)) (withTotals (tableOf (now (s .entry))) (totalsChanged object amount increase (tableOf (now (s .entry))))) ⌝ }
+{
+    let at = TOTALS_AT + object * 2;
+    let old = Total(s[at], s[at + 1]);
+    let new = totals::changed(old, amount, increase);
+    s[at] = new.0;
+    s[at + 1] = new.1;
 }
