@@ -1,0 +1,66 @@
+// A fresh table laid in lent words.
+ghost use mathlib.Core.Path.{_≡_};
+ghost use mathlib.Core.Bool.{true};
+ghost use mathlib.Core.List.{_++_};
+ghost use Prim.Native.Nat.{_+_, _≤_};
+ghost use lib.ListN.{length, drop};
+ghost use lib.Seq.{paste};
+ghost use Rattle.meaning.specs.Table.{inRange, opened};
+ghost use Rattle.layout.specs.Layout.{kindsAt, spaceFor, wordsOf};
+ghost use Rattle.opening.specs.Opening.{headed, headerOf};
+use tags::Station;
+
+// The first word of a table, "roll" in four bytes.
+const TABLE_MARK: u32 = 1919904876;
+
+// Where the parts behind the head stand.
+const KINDS_AT: usize = 7;
+
+const CLOCK_AT: usize = 103;
+
+// A row's words before its vector.
+const KEY: usize = 7;
+
+// A byte as a word.
+fn word(x: u8) -> u32
+    ensures { λ r. ⌜ r ≡ x ⌝ }
+{
+    x as u32
+}
+
+// Writes the kind of each object.
+fn put_kinds(s: &mut [u32], kinds: &[u8])
+    requires { ⌜ kindsAt + length (now kinds) ≤ length (now s) ⌝ }
+    ensures { λ _. ⌜ now (s .exit) ≡ paste (now (s .entry)) kindsAt (now (kinds .entry)) (length (now (kinds .entry))) ⌝ }
+{
+    let mut i = 0;
+    while i < kinds.len() {
+        s[KINDS_AT + i] = word(kinds[i]);
+        i += 1;
+    }
+}
+
+// Writes a head and the kinds behind it, with zeros up to a place.
+fn lay(s: &mut [u32], head: &[u32], kinds: &[u8], needed: usize)
+    requires { ⌜ (length (now head) ≡ kindsAt) × (kindsAt + length (now kinds) ≤ needed) × (needed ≤ length (now s)) ⌝ }
+    ensures { λ _. ⌜ now (s .exit) ≡ headed (now (head .entry)) (now (kinds .entry)) needed (now (s .entry)) ⌝ }
+{
+    moves::clear(s, 0, needed);
+    moves::put(s, 0, head);
+    put_kinds(s, kinds);
+}
+
+// Lays a fresh table: D, every L, the totals and the rows all zero. What lies beyond it stays.
+pub fn lay_table(s: &mut [u32], size: u32, own: Station, capacity: u32, kinds: &[u8])
+    requires { ⌜ (inRange (headerOf size (own .0) capacity (now kinds)) ≡ true) × (spaceFor size capacity ≤ length (now s)) ⌝ }
+    ensures { λ _. ⌜ now (s .exit) ≡ wordsOf (opened (headerOf size (own .0) capacity (now (kinds .entry)))) ++ drop (spaceFor size capacity) (now (s .entry)) ⌝ }
+{
+    let stations = tags::wide(size);
+    let needed = CLOCK_AT
+        + stations
+        + stations * stations
+        + tags::wide(capacity) * (KEY + stations);
+    let objects = kinds.len() as u32;
+    let head = [TABLE_MARK, size, own.0, capacity, objects, 0, 0];
+    lay(s, &head, kinds, needed);
+}
