@@ -193,7 +193,7 @@ no-total : (table : Table) (o : ℕ) → isTable table ≡ true → o < length (
 unfolding totalRule
 no-total table o is d n = no-amount (getD (table .totals) o (pos 0)) (eqb-true (natAbs (getD (table .totals) o (pos 0))) 0 (rw n at (facts table is .total-rule o d)))
 
--- two stations, with the same objects, that have accepted the same operations
+-- two stations, with the same objects, that have accepted the same operations; that a header is in range is what an accepted opening gives
 module _ (header other : Header) (events happened : List Event) (range : inRange header ≡ true) (range′ : inRange other ≡ true) (objects : header .kinds ≡ other .kinds)
     (to : Within (reached header events .accepted) (reached other happened .accepted)) (from : Within (reached other happened .accepted) (reached header events .accepted)) where
   abbrev here : Station
