@@ -12,3 +12,4 @@ pub mod Calls
 pub mod History
 pub mod Computing
 pub mod Papers
+pub mod Boundaries
