@@ -58,7 +58,7 @@ heard =
 -- A table whose own number is this, and one whose counters have these totals.
 abbrev pub numbered : ℕ → Table
 numbered number = record {
-  header = headerWith 2 0 1 (addWinsSet ∷ []);
+  header = headerWith 2 0 4 (addWinsSet ∷ []);
   clock = two number 0;
   last = two 0 0 ∷ two 0 0 ∷ [];
   totals = pos 0 ∷ [];
