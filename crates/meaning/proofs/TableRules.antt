@@ -3,7 +3,7 @@ use mathlib.Core.Path.{_≡_, refl, sym, _∙_, ap, subst}
 use mathlib.Core.Bool.{Bool, true, false, not, _&&_, _||_, cond, false≢true}
 use mathlib.Core.Logic.{_⊎_, ⊎-elim, _≢_}
 use mathlib.Core.List.{List, [], _∷_, _++_, List·Memᴰ, List·Memᴰ·head, List·Memᴰ·tail, List·Memᴰ·cases-cons, Memᴰ·append-left, Memᴰ·append-right}
-use Prim.Native.Nat.{ℕ, zero, suc, _+_, _<_, _≤_}
+use Prim.Native.Nat.{ℕ, zero, suc, _+_, _*_, _<_, _≤_}
 use native.Mathlib.Omega.{arith}
 use native.Mathlib.Nat.{le-of-suc-le-suc, not-suc-le-zero}
 use lib.Dec.{leb, ltb, eqb}
@@ -617,6 +617,31 @@ opens space needed header = record {
         (λ q. let f : Opening.fresh (opened header) ≡ Opening.fresh table = subst (λ (b : Bool). answer b ≡ Opening.fresh table) q e in
         let same : table ≡ opened header = cc in
         (not-false (inRange header) (or-left-fails (not (inRange header)) (ltb space needed) q), ltb-false space needed (or-right-fails (not (inRange header)) (ltb space needed) q), same))
+
+-- a sum of entries of 32 bits
+sum-small : (vector : Vector) → every (λ (entry : ℕ). ltb entry entryLimit) vector ≡ true → sumOfEntries vector ≤ 4294967296 * length vector
+sum-small [] e = omega arith
+sum-small (entry ∷ vector) e =
+    let small = ltb-true entry entryLimit (and-left (ltb entry entryLimit) (every (λ (entry : ℕ). ltb entry entryLimit) vector) e) in
+    let rest = sum-small vector (and-right (ltb entry entryLimit) (every (λ (entry : ℕ). ltb entry entryLimit) vector) e) in
+    omega arith
+
+-- "A total is a signed 64-bit number": in every table by the rules it fits one, on either side of zero.
+pub total-fits : (table : Table) → isTable table ≡ true → (o : ℕ) → o < length (table .header .kinds) → natAbs (getD (table .totals) o (pos 0)) < 9223372036854775808
+unfolding totalRule totalBound
+total-fits table is o d =
+    let F = facts table is in
+    let kind = kindIn (table .header) o in
+    let total = getD (table .totals) o (pos 0) in
+    let within = leb (natAbs total) (totalBound (table .clock)) in
+    let sign = not (eqb kind 1 && isNegative total) in
+    let rule = F .total-rule o d in
+    let size = header-facts (table .header) (F .header-in-range) .size-range .1 in
+    let long = F .clock-length in
+    let sum = sum-small (table .clock) (F .clock-words) in
+    cases (isCounter kind)
+    (λ q. let small = leb-true (natAbs total) (1000000 * sumOfEntries (table .clock)) (and-left within sign (rw q at rule)) in omega arith)
+    (λ q. let none = eqb-true (natAbs total) 0 (rw q at rule) in omega arith)
 
 all-kept : (events : List Event) (station : Station) → isTable (station .table) ≡ true → isTable (afterAll events station .table) ≡ true
 unfolding afterAll

@@ -79,13 +79,6 @@ at-most-before u v w p q = before-by u w (at-most-trans u v w p (before-at-most 
 pub before-trans : (u v w : List ℕ) → beforeByVector u v ≡ true → beforeByVector v w ≡ true → beforeByVector u w ≡ true
 before-trans u v w p q = at-most-before u v w (before-at-most u v p) q
 
--- the document's words: at most, and different
-pub before-differ : (u v : List ℕ) → beforeByVector u v ≡ true → u ≢ v
-before-differ u v p e = clash (beforeByVector v v) (rw e at p) (before-irreflexive v)
-
-pub differ-before : (u v : List ℕ) → atMost u v ≡ true → u ≢ v → beforeByVector u v ≡ true
-differ-before u v p d = before-by u v p (fails (atMost v u) (λ q. d (at-most-antisym u v p q)))
-
 -- entry by entry
 pub at-most-at : (u v : List ℕ) → atMost u v ≡ true → (i : ℕ) → getD u i 0 ≤ getD v i 0
 at-most-at [] v p i = omega arith
@@ -158,6 +151,13 @@ others-mem zero (suc s) (x ∷ l) d h = in-at l s (le-of-suc-le-suc h)
     in-at (x ∷ l) (suc s) h = List·Memᴰ·tail (in-at l s (le-of-suc-le-suc h))
 others-mem (suc k) zero (x ∷ l) d h = List·Memᴰ·head refl
 others-mem (suc k) (suc s) (x ∷ l) d h = List·Memᴰ·tail (others-mem k s l (omega arith) (le-of-suc-le-suc h))
+
+-- a place that is not skipped, unless there is none
+pub others-first : (k : ℕ) (l : List (List ℕ)) → (othersOf k l ≡ []) ⊎ ((s : ℕ) × (s < length l) × (s ≢ k))
+others-first k [] = inl refl
+others-first zero (x ∷ []) = inl refl
+others-first zero (x ∷ y ∷ l) = inr (1, omega arith, omega arith)
+others-first (suc k) (x ∷ l) = inr (0, omega arith, omega arith)
 
 pub low-i : (u d : List ℕ) (l : List (List ℕ)) → atMost u d ≡ true → ((y : List ℕ) → List·Memᴰ y l → atMost u y ≡ true) → atMost u (lowOf d l) ≡ true
 low-i u d [] p f = p

@@ -3,13 +3,13 @@ use mathlib.Core.Path.{_≡_, refl}
 use mathlib.Core.Bool.{Bool, true, false}
 use mathlib.Core.List.{List, [], _∷_, _++_, map}
 use Prim.Native.Nat.{ℕ, zero, suc, pred, _-_}
-use lib.IntN.{pos}
+use lib.IntN.{pos, negℤ}
 use lib.ListN.{length}
 use Rattle.meaning.specs.Order.{Vector, raised}
-use Rattle.meaning.specs.Operations.{Operation, adds, removes, clears, growCounter, twoPhaseSet, enableWinsFlag, disableWinsFlag, multiValueRegister, addWinsSet, removeWinsSet}
+use Rattle.meaning.specs.Operations.{Operation, adds, removes, clears, growCounter, upDownCounter, growSet, twoPhaseSet, enableWinsFlag, disableWinsFlag, multiValueRegister, addWinsSet, removeWinsSet}
 use Rattle.meaning.specs.Rows.{Row, settledRow, unsettledRow, unsettledCount}
 use Rattle.meaning.specs.Table.{Header, Table, low, stable, opened, isTable}
-use Rattle.meaning.specs.Questions.{Asked, Answer, flag, list, count, holds, asksFlag, asksList, asksCount, asksHolds}
+use Rattle.meaning.specs.Questions.{Asked, Answer, total, flag, list, count, holds, asksTotal, asksFlag, asksList, asksCount, asksHolds}
 use Rattle.meaning.specs.Refusals.{Frame, Local, firstOf, refusalOfFrame, refusalOfLocal, greatestLimit, issuedBy, openingRefusals}
 use Rattle.meaning.specs.Calls.{Reply, answered, Opening, steps, ask, meant, openTable}
 use Rattle.meaning.specs.History.{Event, receives, issues, settles, Station, afterAll}
@@ -278,6 +278,11 @@ pub record Papers : Type 0 where
   pub p10-disable-wins : Right (roll 2 disableWinsFlag 2 (ours 0 adds 0 ∷ theirs 1 0 removes 0 (two 0 1) ∷ [])
       (asking asksFlag 0) (flag false) [])
   pub p11 : Right (lows threeStations (three 4 3 2) (tagged (three 4 3 2)) (tagged (three 4 4 2)))
+  -- Kinds 1 to 3, which P1 to P11 leave out: "sum of amounts"; "sum of increases less sum of decreases"; "v is in if it was added".
+  pub grow-counter : Right (roll 2 growCounter 2 (ours 0 adds 5 ∷ theirs 1 0 adds 7 (two 0 1) ∷ []) (asking asksTotal 0) (total (pos 12)) [])
+  pub up-down-counter : Right (roll 2 upDownCounter 2 (ours 0 adds 5 ∷ theirs 1 0 removes 7 (two 0 1) ∷ [])
+      (asking asksTotal 0) (total (negℤ (pos 2))) [])
+  pub grow-set : Right (roll 2 growSet 2 addAndAdd (asking asksCount 0) (count 1) settledPupil)
   -- The third shortcut, "Calling u before t from the sender's entry alone".
   pub skipping : Right (roll 3 addWinsSet 3 skippingEntry isThere (holds true) settledPupil)
   -- The stability test of the source document, by the sender's entry alone.
@@ -333,6 +338,9 @@ papers = record {
   p10-enable-wins = refl;
   p10-disable-wins = refl;
   p11 = refl;
+  grow-counter = refl;
+  up-down-counter = refl;
+  grow-set = refl;
   skipping = refl;
   by-sender-entry = refl;
   p4-one-step = refl;
