@@ -33,6 +33,7 @@ pub record FrameAccepted (table : Table) (frame : Frame) : Type 0 where
   pub not-falling : atMost (getD (table .last) (frame .operation .sender) []) (frame .operation .vector) ≡ true
   pub room : length (rowsAfter (kindIn (table .header) (frame .operation .object)) (frame .operation) (table .rows)) ≤ table .header .capacity
 
+-- "A frame passes 14, 1 to 7, 8": what an accepted one is known to be.
 pub frame-accepted : (table : Table) (frame : Frame) → refusalOfFrame table frame ≡ 0 → FrameAccepted table frame
 unfolding refusalOfFrame arrivalRefusals frameRefusals wellShaped declared inTime roomFor
 frame-accepted table frame e =
@@ -99,6 +100,7 @@ pub record LocalAccepted (table : Table) (local : Local) : Type 0 where
   pub not-last : suc (getD (table .clock) (table .header .own) 0) ≡ entryLimit → ⊥
   pub room : length (rowsAfter (kindIn (table .header) (local .object)) (issuedBy table local) (table .rows)) ≤ table .header .capacity
 
+-- "A local operation passes ... 3, 4, 9, 8": what an accepted one is known to be.
 pub local-accepted : (table : Table) (local : Local) → refusalOfLocal table local ≡ 0 → LocalAccepted table local
 unfolding refusalOfLocal localRefusals declared roomFor issuedBy
 local-accepted table local e =

@@ -239,7 +239,7 @@ module _ (header other : Header) (events happened : List Event) (range : inRange
       (carry here there kinds-equal (S .is-table) (S′ .is-table) (S .is-faithful) (S′ .is-faithful) all all′ to from)
       (carry there here (λ o. sym (kinds-equal o)) (S′ .is-table) (S .is-table) (S′ .is-faithful) (S .is-faithful) all′ all from to)
 
-  -- their totals are the same, settled or not
+  -- "stations that accepted the same operations agree": their totals are the same, settled or not.
   pub equal-totals : here .table .totals ≡ there .table .totals
   equal-totals =
       let F = facts (here .table) (S .is-table) in
@@ -251,7 +251,7 @@ module _ (header other : Header) (events happened : List Event) (range : inRange
       (λ c. S .is-faithful .totals-right o c ∙ total-equal o ∙ sym (S′ .is-faithful .totals-right o (ap isCounter (sym (kinds-equal o)) ∙ c)))
       (λ c. no-total (here .table) o (S .is-table) (omega arith) c ∙ sym (no-total (there .table) o (S′ .is-table) (omega arith) (ap isCounter (sym (kinds-equal o)) ∙ c))))
 
-  -- in groups of one size, so are their clocks
+  -- "stations that accepted the same operations agree": in groups of one size, their clocks are the same.
   pub equal-clocks : header .size ≡ other .size → here .table .clock ≡ there .table .clock
   equal-clocks sizes =
       let F = facts (here .table) (S .is-table) in

@@ -20,7 +20,7 @@ use Rattle.meaning.proofs.Asking.{Alike, replies-alike}
 use Rattle.meaning.proofs.Histories.{Faithful, faithful-after, faithful-opened, cell-answer}
 use Rattle.meaning.proofs.TableRules.{kept, opened-is-table, opens}
 
--- a table by the rules that is faithful to what it accepted
+-- A table by the rules that is faithful to what it accepted
 pub record Sound (header : Header) (station : Station) : Type 0 where
   pub same-header : station .table .header ≡ header
   pub is-table : isTable (station .table) ≡ true
@@ -39,6 +39,7 @@ sound-all header (event ∷ events) station S = sound-all header events (after e
   is-faithful = faithful-after event station (S .is-table) (S .is-faithful);
 })
 
+-- "From a fresh table, whatever was accepted": every station that an opening in range leads to is sound.
 pub reached-sound : (header : Header) (events : List Event) → inRange header ≡ true → Sound header (reached header events)
 unfolding reached opened
 reached-sound header events r = sound-all header events (record { table = opened header; accepted = [] }) (record { same-header = refl; is-table = opened-is-table header r; is-faithful = faithful-opened header })

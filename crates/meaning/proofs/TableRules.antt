@@ -596,6 +596,7 @@ pub record Opens (space needed : ℕ) (header : Header) : Type 0 where
   pub is-opened : (table : Table) → openTable space needed header ≡ Opening.fresh table → table ≡ opened header
   pub meets-rules : (table : Table) → openTable space needed header ≡ Opening.fresh table → isTable table ≡ true
 
+-- "opening 1, 13": each opening does so.
 pub opens : (space needed : ℕ) (header : Header) → Opens space needed header
 unfolding openTable openingRefusals
 opens space needed header = record {

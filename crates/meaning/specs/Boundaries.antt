@@ -30,6 +30,7 @@ allKinds =
     ∷ removeWinsSet
     ∷ []
 
+-- "group size, own station, object count, kind or capacity": a header with these.
 abbrev pub headerWith : ℕ → ℕ → ℕ → List ℕ → Header
 headerWith size own capacity kinds = record { size = size; own = own; capacity = capacity; kinds = kinds }
 
@@ -37,10 +38,11 @@ headerWith size own capacity kinds = record { size = size; own = own; capacity =
 abbrev pub wide : Table
 wide = fromOpening (headerWith 2 0 4 allKinds) [] .table
 
--- A table that is full with the one row that it may hold: 5 in its grow set, or in its add-wins set.
+-- A table that is full with the one row that it may hold: 5 in its grow set, settled.
 abbrev pub full : Table
 full = fromOpening (headerWith 2 0 1 (growSet ∷ addWinsSet ∷ [])) (ours 0 adds 5 ∷ []) .table
 
+-- The same with 5 in its add-wins set, unsettled.
 abbrev pub fullOfTags : Table
 fullOfTags = fromOpening (headerWith 2 0 1 (growSet ∷ addWinsSet ∷ [])) (ours 1 adds 5 ∷ []) .table
 
@@ -55,7 +57,7 @@ heard =
     ∷ []
     ) .table
 
--- A table whose own number is this, and one whose counters have these totals.
+-- A table whose own number is this.
 abbrev pub numbered : ℕ → Table
 numbered number = record {
   header = headerWith 2 0 4 (addWinsSet ∷ []);
@@ -65,6 +67,7 @@ numbered number = record {
   rows = [];
 }
 
+-- A table with D = [1,2] whose two counters have these totals.
 abbrev pub counting : ℤ → ℤ → Table
 counting grown upAndDown = record {
   header = headerWith 2 0 1 (growCounter ∷ upDownCounter ∷ []);
@@ -74,35 +77,41 @@ counting grown upAndDown = record {
   rows = [];
 }
 
--- The refusal of a local operation, of a frame, of a question and of an opening; 0 is none.
+-- The number that a local operation gets; 0 is none.
 abbrev pub issued : Table → ℕ → ℕ → ℕ → ℕ
 issued table object code value = refusalOfLocal table (record { object = object; code = code; value = value })
 
+-- The number that a frame gets from the table of three stations.
 abbrev pub offered : Frame → ℕ
 offered frame = refusalOfFrame heard frame
 
+-- The number that a question to the fresh table gets, with a list space of 4.
 abbrev pub asked : ℕ → ℕ → ℕ → ℕ
 asked object question value =
     firstOf (questionRefusals (wide .header) (byRows wide) 4 (record { object = object; question = question; value = value }))
 
+-- The number that an opening gets, in a space of just the words that it needs.
 abbrev pub opening : Header → ℕ
 opening header = firstOf (openingRefusals 1 1 header)
 
--- What happens to each of the codes 0 to 4, and to each question from 0 to 6, at an object.
+-- The numbers that the codes 0 to 4 get at an object of the fresh table.
 abbrev pub codesAt : ℕ → ℕ → List ℕ
 codesAt object value = map (λ (code : ℕ). issued wide object code value) (0 ∷ adds ∷ removes ∷ clears ∷ 4 ∷ [])
 
+-- The numbers that the questions 0 to 6 get at an object of the fresh table.
 abbrev pub questionsAt : ℕ → List ℕ
 questionsAt object =
     map (λ (question : ℕ). asked object question 0) (0 ∷ asksTotal ∷ asksFlag ∷ asksList ∷ asksCount ∷ asksHolds ∷ 6 ∷ [])
 
--- A frame of station 1 to the add-wins set, with this vector; and the same with another N.
+-- A frame of station 1 to the add-wins set, with this vector.
 abbrev pub frameWith : Vector → Frame
 frameWith vector = frameOf 1 7 adds 5 vector
 
+-- A frame that is right but for its N.
 abbrev pub frameOfSize : ℕ → Frame
 frameOfSize size = record { size = size; operation = frameWith (three 1 3 0) .operation }
 
+-- "Given exactly when": each number and range at its boundary, 0 where a call is not refused.
 pub record Boundaries : Type 0 where
   -- 4: "code, value or amount not allowed for the kind". The codes of the nine kinds.
   pub codes-of-counters : (codesAt 0 1 ∷ codesAt 1 1 ∷ []) ≡ ((4 ∷ 0 ∷ 4 ∷ 4 ∷ 4 ∷ []) ∷ (4 ∷ 0 ∷ 0 ∷ 4 ∷ 4 ∷ []) ∷ [])

@@ -54,6 +54,7 @@ pub record Source : Type 0 where
   pub listAt : ℕ → List ℕ
   pub countAt : ℕ → ℕ
 
+-- "An answer from rows, in any table": one who answers by a table's totals and rows.
 unfoldable pub byRows : Table → Source
 byRows table = record {
   totalAt = λ o. getD (table .totals) o (pos 0);
@@ -62,6 +63,7 @@ byRows table = record {
   countAt = λ o. countByRows (kindIn (table .header) o) o (table .rows);
 }
 
+-- "Definition over the accepted operations": one who answers by the nine definitions.
 unfoldable pub byDefinition : Header → List Operation → Source
 byDefinition header accepted = record {
   totalAt = λ o. totalOf o accepted;
@@ -70,6 +72,7 @@ byDefinition header accepted = record {
   countAt = λ o. countOf (kindIn header o) o accepted;
 }
 
+-- "1 total, 2 flag, 3 list, 4 count of different values, 5 holds this value": what each question gets; a flag is on when 0 is in.
 unfoldable pub answerFrom : Source → Asked → Answer
 answerFrom source asked =
     let o = asked .object in

@@ -39,6 +39,7 @@ droppedWith kind u others row =
     (removesStand kind && (eqb (u .code) adds && not (addBeside u others)))
     && (row .settled && removeOf (u .object) (u .value) (row .operation))
 
+-- "is dropped as well": the rows without those that go with the row of u.
 unfoldable pub leftBy : ℕ → Operation → List Row → List Row → List Row
 leftBy kind u others rows = those (λ (row : Row). not (droppedWith kind u others row)) rows
 
@@ -57,6 +58,7 @@ stepFrom kindOf low above (row ∷ below) =
     (stepAt (kindOf (row .operation .object)) above (row .operation) below)
     (stepFrom kindOf low (above ++ (row ∷ [])) below)
 
+-- "One settling step", over all the rows.
 abbrev pub stepOf : (ℕ → ℕ) → Vector → List Row → List Row
 stepOf kindOf low rows = stepFrom kindOf low [] rows
 
