@@ -1,16 +1,16 @@
 -- What is accepted, and only that: a call is not refused exactly when each of these facts holds.
-use mathlib.Core.Path.{_≡_, refl, sym, _∙_, ap, subst}
-use mathlib.Core.Bool.{Bool, true, false, not, _&&_, _||_, cond, false≢true}
+use mathlib.Core.Path.{_≡_}
+use mathlib.Core.Bool.{true, false, not, _&&_, cond}
 use mathlib.Core.Logic.{_↔_}
-use mathlib.Core.List.{List, [], _∷_, _++_}
-use Prim.Native.Nat.{ℕ, zero, suc, _<_, _≤_}
+use mathlib.Core.List.{[]}
+use Prim.Native.Nat.{ℕ, suc, _<_, _≤_}
 use native.Mathlib.Omega.{arith}
 use lib.Dec.{leb, ltb, eqb}
 use lib.ListN.{getD, length}
 use borrow.Author.Tests.{ltb-true, ltb-false, leb-true, leb-false, eqb-true, eqb-false, not-false, lt-ltb, le-ltb, le-leb, lt-leb, eq-eqb, ne-eqb}
 use Rattle.meaning.specs.Tests.{every, between}
-use Rattle.meaning.specs.Order.{Vector, entryLimit, atMost, raised}
-use Rattle.meaning.specs.Operations.{Operation, numberOf, valueLimit}
+use Rattle.meaning.specs.Order.{entryLimit, atMost, raised}
+use Rattle.meaning.specs.Operations.{numberOf, valueLimit}
 use Rattle.meaning.specs.Arrival.{rowsAfter}
 use Rattle.meaning.specs.Table.{Header, Table, kindIn}
 use Rattle.meaning.specs.Questions.{Asked, Source, asksTotal, asksList, asksHolds, fits}

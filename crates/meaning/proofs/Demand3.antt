@@ -1,11 +1,11 @@
 -- Demand 3: "From a fresh table, whatever was accepted, in whatever allowed order, with whatever settling between: every answer equals the
 -- definitions over all accepted operations, though most are thrown away."
-use mathlib.Core.Path.{_≡_, refl, sym, _∙_, ap, subst}
-use mathlib.Core.Bool.{Bool, true, false}
+use mathlib.Core.Path.{_≡_, refl, _∙_, ap}
+use mathlib.Core.Bool.{true, false}
 use mathlib.Core.List.{List, [], _∷_}
 use Prim.Native.Nat.{ℕ, _<_}
 use lib.ListN.{length}
-use Rattle.meaning.specs.Operations.{Operation, isCounter}
+use Rattle.meaning.specs.Operations.{isCounter}
 use Rattle.meaning.specs.Meaning.{isIn, countOf}
 use Rattle.meaning.specs.Rows.{isInByRows, countByRows}
 use Rattle.meaning.specs.Table.{Header, Table, kindIn, stable, inRange, isTable, opened}

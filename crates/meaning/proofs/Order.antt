@@ -1,19 +1,19 @@
 -- The order of operations, for every N: a strict order with four outcomes, and what stability gives.
-use mathlib.Core.Path.{_≡_, refl, sym, _∙_, ap, subst}
-use mathlib.Core.Bool.{Bool, true, false, not, _&&_, _||_, cond, false≢true}
+use mathlib.Core.Path.{_≡_, refl, ap, subst}
+use mathlib.Core.Bool.{Bool, true, false, not, _&&_, cond}
 use mathlib.Core.List.{List, [], _∷_}
 use Prim.Native.Nat.{ℕ, _+_, suc}
 use native.Mathlib.Omega.{arith}
 use lib.ListN.{set, length}
-use Rattle.meaning.specs.Order.{Vector, atMost, same, beforeByVector, concurrentByVector, raised}
+use Rattle.meaning.specs.Order.{Vector, atMost, same, beforeByVector, concurrentByVector}
 use Rattle.meaning.specs.Operations.{Operation, before, concurrent}
 use Rattle.meaning.specs.Settling.{stableBy}
 use Rattle.meaning.specs.Table.{Table, low, stable, isTable}
 use Rattle.meaning.specs.Refusals.{Frame, Local, issuedBy, refusalOfFrame, refusalOfLocal}
 use Rattle.meaning.specs.Calls.{afterArrival}
 use Rattle.meaning.specs.History.{Event, Station, after, afterAll}
-use Rattle.meaning.proofs.Tests.{cases, clash, fails, not-holds}
-use Rattle.meaning.proofs.Vectors.{at-most-refl, at-most-trans, at-most-at, at-most-raised, before-by, before-not, before-at-most, before-irreflexive, before-trans, higher, same-eq, eq-same}
+use Rattle.meaning.proofs.Tests.{clash, fails}
+use Rattle.meaning.proofs.Vectors.{at-most-at, before-by, before-not, before-at-most, before-irreflexive, before-trans, higher, same-eq}
 use Rattle.meaning.proofs.TableFacts.{low-below}
 use Rattle.meaning.proofs.Arriving.{Accepts, frame-accepts, local-accepts, event-elim}
 use Rattle.meaning.proofs.TableRules.{kept}

@@ -1,7 +1,7 @@
 -- Settling: the reported number, when the call ends, and that no answer changes.
 use mathlib.Core.Path.{_≡_, refl, sym, _∙_, ap, subst, subst₂}
 use mathlib.Core.Bool.{Bool, true, false, not, _&&_, _||_, cond, false≢true}
-use mathlib.Core.Logic.{_⊎_, ⊎-elim}
+use mathlib.Core.Logic.{⊎-elim}
 use mathlib.Core.List.{List, [], _∷_, _++_, List·Memᴰ, append-nil, append-assoc}
 use Prim.Native.Nat.{ℕ, zero, suc, _+_, _≤_, _<_}
 use native.Mathlib.Omega.{arith}
@@ -10,7 +10,7 @@ use lib.Dec.{eqb}
 use lib.ListN.{length}
 use Rattle.meaning.specs.Tests.{any, those}
 use Rattle.meaning.specs.Order.{Vector}
-use Rattle.meaning.specs.Operations.{Operation, isCounter, removesStand, codesOf, codeAllowed}
+use Rattle.meaning.specs.Operations.{Operation, adds, removes, isCounter, removesStand, codesOf, codeAllowed}
 use Rattle.meaning.specs.Meaning.{on, addOf, removeOf}
 use Rattle.meaning.specs.Rows.{Row, unsettledRow, settledRow, unsettledCount, removeRowsCount, isInByRows, listByRows, countByRows}
 use Rattle.meaning.specs.Arrival.{getsRow, sameValue}
@@ -18,7 +18,7 @@ use Rattle.meaning.specs.Settling.{due, addBeside, removeBeside, becomes
 use Rattle.meaning.specs.Table.{Table, kindIn, low, storable, settledOnly, isTable}
 use Rattle.meaning.specs.Questions.{Asked, byRows}
 use Rattle.meaning.specs.Calls.{withRows, rowsSettled, steps, ask}
-use Rattle.meaning.proofs.Tests.{cases, clash, iff, and-right, and-both, and-fails, fails-not, or-cases, or-left, or-right, or-left-fails, or-right-fails, any-in, any-out, any-no, any-none, any-cong, any-or, any-mid, mem-mid, mem-into}
+use Rattle.meaning.proofs.Tests.{and-true, cases, clash, iff, and-right, and-both, and-fails, fails-not, or-cases, or-left, or-right, or-left-fails, or-right-fails, any-in, any-out, any-no, any-none, any-cong, any-or, any-mid, mem-mid, mem-into}
 use Rattle.meaning.proofs.OneValue.{add-on, remove-on, add-untagged, remove-untagged}
 use Rattle.meaning.proofs.RowLaws.{on-eq, on-self, step-back, step-elim, steps-elim}
 use Rattle.meaning.proofs.Steps.{others, any-act, add-by, add-not-rem}
@@ -179,7 +179,7 @@ or-nil true e = refl
 or-nil false e = e
 
 -- The codes of stored rows of kinds 5 to 9: "a clear gets none in any kind, a remove or disable gets none in kinds 5 and 8".
-pub stored-codes : (kind : ℕ) (u : Operation) → storable kind u ≡ true → settledOnly kind ≡ false → (eqb (u .code) 1 || (removesStand kind && eqb (u .code) 2)) ≡ true
+pub stored-codes : (kind : ℕ) (u : Operation) → storable kind u ≡ true → settledOnly kind ≡ false → (eqb (u .code) adds || (removesStand kind && eqb (u .code) removes)) ≡ true
 unfolding storable codeAllowed codesOf getsRow isCounter removesStand settledOnly
 stored-codes zero u s h = absurd (false≢true s)
 stored-codes (suc zero) u s h = absurd (false≢true s)
@@ -261,11 +261,7 @@ module _ (kind : ℕ) (u : Operation) (above below : List Row) where
 
   removes-stay : (removesStand kind && (eqb (u .code) 1 && not (addBeside u beside))) ≡ false → any (λ (row : Row). remove row && stays row) beside ≡ any remove beside
   unfolding droppedWith
-  removes-stay e = any-cong (λ (row : Row). remove row && stays row) remove beside (λ row _. rw e (go (remove row)))
-    where
-      go : (b : Bool) → (b && true) ≡ b
-      go true = refl
-      go false = refl
+  removes-stay e = any-cong (λ (row : Row). remove row && stays row) remove beside (λ row _. rw e (and-true (remove row)))
 
   removes-none : any remove beside ≡ false → any (λ (row : Row). remove row && stays row) beside ≡ false
   removes-none e = any-none (λ (row : Row). remove row && stays row) beside (λ row m. rw (any-no remove beside e row m))
@@ -326,7 +322,7 @@ module _ (table : Table) (above below : List Row) (u : Operation) (each : EachRo
       (λ p. let e = on-eq o v u p in subst₂ (StepKeeps table above below u) (e .0) (e .1) (f (e .0)))
       (λ p. kept-elsewhere kind u above below (kindIn (table .header) o) o v p)
 
-  codes : (row : Row) → List·Memᴰ row (above ++ (unsettledRow u ∷ below)) → on (u .object) (u .value) (row .operation) ≡ true → settledOnly kind ≡ false → (eqb (row .operation .code) 1 || (removesStand kind && eqb (row .operation .code) 2)) ≡ true
+  codes : (row : Row) → List·Memᴰ row (above ++ (unsettledRow u ∷ below)) → on (u .object) (u .value) (row .operation) ≡ true → settledOnly kind ≡ false → (eqb (row .operation .code) adds || (removesStand kind && eqb (row .operation .code) removes)) ≡ true
   codes row m p only = stored-codes kind (row .operation) (subst (λ (o : ℕ). storable (kindIn (table .header) o) (row .operation) ≡ true) (on-eq (u .object) (u .value) (row .operation) p .0) (each row m .is-storable)) only
 
   -- Kinds 3 and 4: no step is at one of their rows, which are settled only.

@@ -1,7 +1,7 @@
 -- Each call keeps the table rules, on any table that meets them, reachable or not.
 use mathlib.Core.Path.{_≡_, refl, sym, _∙_, ap, subst}
 use mathlib.Core.Bool.{Bool, true, false, not, _&&_, _||_, cond, false≢true}
-use mathlib.Core.Logic.{_⊎_, ⊎-elim, _≢_}
+use mathlib.Core.Logic.{⊎-elim, _≢_}
 use mathlib.Core.List.{List, [], _∷_, _++_, List·Memᴰ, List·Memᴰ·head, List·Memᴰ·tail, List·Memᴰ·cases-cons, Memᴰ·append-left, Memᴰ·append-right}
 use Prim.Native.Nat.{ℕ, zero, suc, _+_, _*_, _<_, _≤_}
 use native.Mathlib.Omega.{arith}
@@ -19,7 +19,7 @@ use Rattle.meaning.specs.Rows.{Row, unsettledRow, settledRow, keyOf, low
 use Rattle.meaning.specs.Arrival.{getsRow, withRow, takenBy, taggedArrival, sameValue, settledArrival, rowsAfter, amountOf, totalsAfter}
 use Rattle.meaning.specs.Settling.{removeBeside, addBeside, becomesSettled, droppedWith, leftBy, stepAt}
 use Rattle.meaning.specs.Table.{Header, Table, kindIn, low, zeros, opened, inRange, lastRule, sumOfEntries, totalBound, isNegative, totalRule, storable, settledOnly, oneRowAValue, isTable}
-use Rattle.meaning.specs.Refusals.{Frame, Local, firstOf, issuedBy, refusalOfFrame, refusalOfLocal, refusalOfSettling, operationAllowed, openingRefusals}
+use Rattle.meaning.specs.Refusals.{Frame, Local, issuedBy, refusalOfFrame, refusalOfLocal, refusalOfSettling, operationAllowed, openingRefusals}
 use Rattle.meaning.specs.Calls.{Opening, withRows, afterArrival, outcome, receive, issue, settle, rowsSettled, openTable}
 use Rattle.meaning.specs.History.{Event, receives, issues, settles, Station, afterOutcome, afterSettling, after, afterAll, reached as reachedStation}
 use Rattle.meaning.proofs.Tests.{cases, clash, and-left, and-right, and-both, and-fails, fails, fails-not, not-holds, or-cases, or-left-fails, or-right-fails, on-cons, any-in, any-no, any-none, those-out, mem-mid, between-out}

@@ -1,16 +1,16 @@
 -- Vectors, for every N.
-use mathlib.Core.Path.{_≡_, refl, sym, _∙_, ap, ap₂, subst}
-use mathlib.Core.Bool.{Bool, true, false, not, _&&_, _||_, cond, false≢true}
+use mathlib.Core.Path.{_≡_, refl, ap₂}
+use mathlib.Core.Bool.{true, false, not, false≢true}
 use mathlib.Core.Logic.{_⊎_, inl, inr, _≢_}
-use mathlib.Core.List.{List, [], _∷_, _++_, List·Memᴰ, List·Memᴰ·head, List·Memᴰ·tail}
-use Prim.Native.Nat.{ℕ, zero, suc, _+_, _≤_, _<_, min}
+use mathlib.Core.List.{List, [], _∷_, List·Memᴰ, List·Memᴰ·head, List·Memᴰ·tail}
+use Prim.Native.Nat.{ℕ, zero, suc, _≤_, _<_, min}
 use native.Mathlib.Omega.{arith}
 use native.Mathlib.Nat.{le-of-suc-le-suc, not-suc-le-zero}
-use borrow.Author.Tests.{leb-true, leb-false, le-leb, lt-leb, eqb-true, eq-eqb}
-use lib.Dec.{leb, eqb, ltb}
+use borrow.Author.Tests.{leb-true, le-leb, eqb-true, eq-eqb}
+use lib.Dec.{leb, eqb}
 use lib.ListN.{getD, set, length}
-use Rattle.meaning.specs.Order.{Vector, atMost, same, beforeByVector, raised, least, leastOf, othersOf, lowOf}
-use Rattle.meaning.proofs.Tests.{cases, clash, and-left, and-right, and-both, fails, not-holds, fails-not}
+use Rattle.meaning.specs.Order.{atMost, same, beforeByVector, raised, least, leastOf, othersOf, lowOf}
+use Rattle.meaning.proofs.Tests.{clash, and-left, and-right, and-both, fails, not-holds, fails-not}
 
 -- both ways between a cons's test and its parts
 down : (x y : ℕ) (u v : List ℕ) → atMost (x ∷ u) (y ∷ v) ≡ true → (x ≤ y) × (atMost u v ≡ true)

@@ -1,13 +1,12 @@
 -- The document's boundaries, as one table: each number and each range of it, at its last value that is allowed and its first that is not.
 use mathlib.Core.Path.{_≡_, refl}
-use mathlib.Core.Bool.{Bool, true, false}
+use mathlib.Core.Bool.{true, false}
 use mathlib.Core.List.{List, [], _∷_, map}
 use Prim.Native.Nat.{ℕ}
 use lib.IntN.{ℤ, pos, negℤ}
 use lib.ListN.{replicate}
 use Rattle.meaning.specs.Order.{Vector}
 use Rattle.meaning.specs.Operations.{adds, removes, clears, growCounter, upDownCounter, growSet, twoPhaseSet, enableWinsFlag, disableWinsFlag, multiValueRegister, addWinsSet, removeWinsSet}
-use Rattle.meaning.specs.Rows.{Row}
 use Rattle.meaning.specs.Table.{Header, Table, totalBound, isTable}
 use Rattle.meaning.specs.Questions.{list, asksTotal, asksFlag, asksList, asksCount, asksHolds, byRows}
 use Rattle.meaning.specs.Refusals.{Frame, firstOf, refusalOfFrame, refusalOfLocal, refusalOfSettling, questionRefusals, openingRefusals}

@@ -1,11 +1,11 @@
 -- Operations, kinds and codes.
-use mathlib.Core.Bool.{Bool, true, false, not, _&&_, _||_, cond}
+use mathlib.Core.Bool.{Bool, _&&_, _||_, cond}
 use mathlib.Core.List.{List, [], _∷_}
 use Prim.Native.Nat.{ℕ}
-use lib.Dec.{leb, ltb, eqb}
+use lib.Dec.{ltb, eqb}
 use lib.ListN.{getD}
 use Rattle.meaning.specs.Tests.{any, between}
-use Rattle.meaning.specs.Order.{Vector, atMost, same, beforeByVector, concurrentByVector}
+use Rattle.meaning.specs.Order.{Vector, beforeByVector, concurrentByVector}
 
 -- "object, code, value", and "An operation's tag is its sender and a vector".
 pub record Operation : Type 0 where

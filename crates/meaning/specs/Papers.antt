@@ -1,7 +1,7 @@
 -- The document's histories P1 to P11, as one table.
 use mathlib.Core.Path.{_≡_, refl}
 use mathlib.Core.Bool.{Bool, true, false}
-use mathlib.Core.List.{List, [], _∷_, _++_, map}
+use mathlib.Core.List.{List, [], _∷_, _++_}
 use Prim.Native.Nat.{ℕ, zero, suc, pred, _-_}
 use lib.IntN.{pos, negℤ}
 use lib.ListN.{length}

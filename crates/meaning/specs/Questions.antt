@@ -1,12 +1,11 @@
 -- The five questions, and their answers from rows and from the definitions.
-use mathlib.Core.Bool.{Bool, true, false, not, _&&_, _||_, cond}
-use mathlib.Core.List.{List, [], _∷_}
+use mathlib.Core.Bool.{Bool, not, _||_, cond}
+use mathlib.Core.List.{List}
 use Prim.Native.Nat.{ℕ}
-use lib.Dec.{leb, eqb}
+use lib.Dec.{eqb}
 use lib.IntN.{ℤ, pos}
-use lib.ListN.{getD, length}
-use Rattle.meaning.specs.Tests.{between}
-use Rattle.meaning.specs.Operations.{Operation, isCounter, isFlag, valueLimit}
+use lib.ListN.{getD}
+use Rattle.meaning.specs.Operations.{Operation, isCounter, isFlag}
 use Rattle.meaning.specs.Meaning.{isIn, totalOf, listOf, countOf}
 use Rattle.meaning.specs.Rows.{isInByRows, listByRows, countByRows}
 use Rattle.meaning.specs.Table.{Header, Table, kindIn}

@@ -1,6 +1,6 @@
 -- The refusal numbers, in the order in which each call tries them. Tried elsewhere, where there are lines and spaces: 14, before all that is here;
 -- of 1 what is about a line ("wrong length or type", "not lower-case hexadecimal or without its LF"), before what is here; 10, after it; and 15.
-use mathlib.Core.Bool.{Bool, true, false, not, _&&_, _||_, cond}
+use mathlib.Core.Bool.{Bool, not, _&&_, _||_, cond}
 use mathlib.Core.List.{List, [], _∷_, _++_}
 use Prim.Native.Nat.{ℕ, suc}
 use lib.Dec.{leb, ltb, eqb}
@@ -8,7 +8,6 @@ use lib.ListN.{getD, length}
 use Rattle.meaning.specs.Tests.{every, between}
 use Rattle.meaning.specs.Order.{Vector, entryLimit, atMost, raised}
 use Rattle.meaning.specs.Operations.{Operation, numberOf, allowed, valueLimit}
-use Rattle.meaning.specs.Rows.{Row}
 use Rattle.meaning.specs.Arrival.{rowsAfter}
 use Rattle.meaning.specs.Table.{Header, Table, kindIn, inRange}
 use Rattle.meaning.specs.Questions.{Asked, Source, asksTotal, asksList, asksHolds, fits}

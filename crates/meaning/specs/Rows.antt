@@ -2,11 +2,11 @@
 use mathlib.Core.Bool.{Bool, true, false, not, _&&_, _||_, cond}
 use mathlib.Core.List.{List, [], _∷_, map}
 use Prim.Native.Nat.{ℕ, _+_}
-use lib.Dec.{leb, ltb, eqb}
+use lib.Dec.{ltb, eqb}
 use lib.ListN.{length}
 use Rattle.meaning.specs.Tests.{any, every, those}
 use Rattle.meaning.specs.Operations.{Operation, numberOf, twoPhaseSet, removesStand}
-use Rattle.meaning.specs.Meaning.{of, on, addOf, removeOf, joined, valuesNamed}
+use Rattle.meaning.specs.Meaning.{addOf, removeOf, joined, valuesNamed}
 
 -- "A row is object, value, code, and either its tag (unsettled) or no tag (settled)."
 pub record Row : Type 0 where

@@ -1,12 +1,12 @@
 -- Settling: one step, and the settling call with its count.
-use mathlib.Core.Bool.{Bool, true, false, not, _&&_, _||_, cond}
+use mathlib.Core.Bool.{Bool, true, false, not, _&&_, cond}
 use mathlib.Core.List.{List, [], _∷_, _++_}
 use Prim.Native.Nat.{ℕ, zero, suc}
 use lib.Dec.{eqb}
 use Rattle.meaning.specs.Tests.{any, those}
 use Rattle.meaning.specs.Order.{Vector, atMost}
 use Rattle.meaning.specs.Operations.{Operation, adds, removesStand}
-use Rattle.meaning.specs.Meaning.{on, addOf, removeOf}
+use Rattle.meaning.specs.Meaning.{addOf, removeOf}
 use Rattle.meaning.specs.Rows.{Row, settledRow}
 use Rattle.meaning.specs.Arrival.{sameValue}
 

@@ -7,7 +7,7 @@ use lib.IntN.{ℤ, pos, negsuc, natAbs}
 use lib.ListN.{getD, length, replicate}
 use Rattle.meaning.specs.Tests.{any, every, everyAt, allHold, between}
 use Rattle.meaning.specs.Order.{Vector, entryLimit, atMost, same, othersOf, lowOf}
-use Rattle.meaning.specs.Operations.{Operation, numberOf, isCounter, growCounter, growSet, twoPhaseSet, enableWinsFlag, multiValueRegister, addWinsSet, adds, removes, clears, codeAllowed, valueAllowed, greatestAmount}
+use Rattle.meaning.specs.Operations.{Operation, numberOf, isCounter, growCounter, growSet, twoPhaseSet, codeAllowed, valueAllowed, greatestAmount}
 use Rattle.meaning.specs.Rows.{Row, inOrder}
 use Rattle.meaning.specs.Arrival.{getsRow, sameValue}
 use Rattle.meaning.specs.Settling.{stableBy}
