@@ -148,7 +148,8 @@ pub record Boundaries : Type 0 where
       ≡ (2 ∷ 0 ∷ 2 ∷ [])
   -- 3 and 4, of a frame.
   pub frame-objects : map (λ (object : ℕ). offered (frameOf 1 object adds 5 (three 1 3 0))) (8 ∷ 9 ∷ []) ≡ (0 ∷ 3 ∷ [])
-  pub frame-amounts : map (λ (amount : ℕ). offered (frameOf 1 1 removes amount (three 1 3 0))) (0 ∷ 1000000 ∷ 1000001 ∷ []) ≡ (4 ∷ 0 ∷ 4 ∷ [])
+  pub frame-amounts : map (λ (amount : ℕ). offered (frameOf 1 1 removes amount (three 1 3 0))) (0 ∷ 1000000 ∷ 1000001 ∷ [])
+      ≡ (4 ∷ 0 ∷ 4 ∷ [])
   -- 5: "number at most D[sender]"; 6: "number above D[sender] + 1".
   pub numbers : map (λ (number : ℕ). offered (frameWith (three 1 number 0))) (0 ∷ 2 ∷ 3 ∷ 4 ∷ []) ≡ (5 ∷ 5 ∷ 0 ∷ 6 ∷ [])
   -- 6: "or another entry above D: too early".
@@ -165,9 +166,15 @@ pub record Boundaries : Type 0 where
   pub questions-to-3-and-4 : map questionsAt (2 ∷ 3 ∷ [])
       ≡ ((1 ∷ 12 ∷ 12 ∷ 0 ∷ 0 ∷ 0 ∷ 1 ∷ []) ∷ (1 ∷ 12 ∷ 12 ∷ 0 ∷ 0 ∷ 0 ∷ 1 ∷ []) ∷ [])
   pub questions-to-7-8-9 : map questionsAt (6 ∷ 7 ∷ 8 ∷ [])
-      ≡ ((1 ∷ 12 ∷ 12 ∷ 0 ∷ 0 ∷ 0 ∷ 1 ∷ []) ∷ (1 ∷ 12 ∷ 12 ∷ 0 ∷ 0 ∷ 0 ∷ 1 ∷ []) ∷ (1 ∷ 12 ∷ 12 ∷ 0 ∷ 0 ∷ 0 ∷ 1 ∷ []) ∷ [])
+      ≡ (
+      (1 ∷ 12 ∷ 12 ∷ 0 ∷ 0 ∷ 0 ∷ 1 ∷ [])
+      ∷ (1 ∷ 12 ∷ 12 ∷ 0 ∷ 0 ∷ 0 ∷ 1 ∷ [])
+      ∷ (1 ∷ 12 ∷ 12 ∷ 0 ∷ 0 ∷ 0 ∷ 1 ∷ [])
+      ∷ []
+      )
   -- 1: "a value given to a question that takes none"; "The value is 0 except in question 5".
-  pub value-9 : (asked 0 asksTotal 9 ∷ asked 4 asksFlag 9 ∷ asked 7 asksList 9 ∷ asked 7 asksCount 9 ∷ asked 7 asksHolds 9 ∷ []) ≡ (1 ∷ 1 ∷ 1 ∷ 1 ∷ 0 ∷ [])
+  pub value-9 : (asked 0 asksTotal 9 ∷ asked 4 asksFlag 9 ∷ asked 7 asksList 9 ∷ asked 7 asksCount 9 ∷ asked 7 asksHolds 9 ∷ [])
+      ≡ (1 ∷ 1 ∷ 1 ∷ 1 ∷ 0 ∷ [])
   pub held-values : map (asked 7 asksHolds) (0 ∷ 4294967295 ∷ 4294967296 ∷ []) ≡ (0 ∷ 0 ∷ 1 ∷ [])
   -- 3, of a question.
   pub question-objects : map (λ (object : ℕ). asked object asksCount 0) (8 ∷ 9 ∷ []) ≡ (0 ∷ 3 ∷ [])
@@ -178,7 +185,8 @@ pub record Boundaries : Type 0 where
   -- 13: "group size, own station, object count, kind or capacity out of range, or space too small".
   pub group-sizes : map (λ (size : ℕ). opening (headerWith size 0 4 allKinds)) (0 ∷ 1 ∷ 16 ∷ 17 ∷ []) ≡ (13 ∷ 0 ∷ 0 ∷ 13 ∷ [])
   pub own-stations : map (λ (own : ℕ). opening (headerWith 3 own 4 allKinds)) (0 ∷ 1 ∷ 2 ∷ 3 ∷ []) ≡ (0 ∷ 0 ∷ 0 ∷ 13 ∷ [])
-  pub object-counts : map (λ (count : ℕ). opening (headerWith 2 0 4 (replicate count growSet))) (0 ∷ 1 ∷ 32 ∷ 33 ∷ []) ≡ (13 ∷ 0 ∷ 0 ∷ 13 ∷ [])
+  pub object-counts : map (λ (count : ℕ). opening (headerWith 2 0 4 (replicate count growSet))) (0 ∷ 1 ∷ 32 ∷ 33 ∷ [])
+      ≡ (13 ∷ 0 ∷ 0 ∷ 13 ∷ [])
   pub kinds : map (λ (kind : ℕ). opening (headerWith 2 0 4 (growSet ∷ kind ∷ []))) (0 ∷ 1 ∷ 9 ∷ 10 ∷ []) ≡ (13 ∷ 0 ∷ 0 ∷ 13 ∷ [])
   pub capacities : map (λ (capacity : ℕ). opening (headerWith 2 0 capacity allKinds)) (0 ∷ 1 ∷ 512 ∷ 513 ∷ []) ≡ (13 ∷ 0 ∷ 0 ∷ 13 ∷ [])
   pub spaces : map (λ (space : ℕ). firstOf (openingRefusals space 100 (wide .header))) (0 ∷ 99 ∷ 100 ∷ 101 ∷ []) ≡ (13 ∷ 13 ∷ 0 ∷ 0 ∷ [])

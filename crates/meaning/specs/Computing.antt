@@ -51,7 +51,8 @@ unfolding fits byRows byDefinition answerFrom
 questionWords = 0
 
 unfoldable pub refusalWords : ℕ
-unfolding wellShaped declared operationAllowed inTime frameRefusals roomFor arrivalRefusals refusalOfFrame issuedBy localRefusals refusalOfLocal settlingRefusals refusalOfSettling wellAsked listTooLong questionRefusals openingRefusals
+unfolding wellShaped declared operationAllowed inTime frameRefusals roomFor arrivalRefusals refusalOfFrame issuedBy
+    localRefusals refusalOfLocal settlingRefusals refusalOfSettling wellAsked listTooLong questionRefusals openingRefusals
 refusalWords = 0
 
 unfoldable pub callWords : ℕ

@@ -38,6 +38,6 @@ unfoldable pub afterAll : List Event → Station → Station
 afterAll [] station = station
 afterAll (event ∷ events) station = afterAll events (after event station)
 
--- A station from its opening, after these events.
+-- A station from its opening, after these events; an opening that is accepted gives the opened table (`TableRules.opens`).
 unfoldable pub reached : Header → List Event → Station
 reached header events = afterAll events (record { table = opened header; accepted = [] })
