@@ -1,22 +1,23 @@
 -- What is accepted, and only that: a call is not refused exactly when each of these facts holds.
 use mathlib.Core.Path.{_≡_}
 use mathlib.Core.Bool.{true, false, not, _&&_, cond}
-use mathlib.Core.Logic.{_↔_}
+use mathlib.Core.Logic.{_≢_, _↔_}
 use mathlib.Core.List.{[]}
 use Prim.Native.Nat.{ℕ, suc, _<_, _≤_}
 use native.Mathlib.Omega.{arith}
 use lib.Dec.{leb, ltb, eqb}
-use lib.ListN.{getD, length}
+use lib.ListN.{getD, length, length-set}
+use lib.Seq.{getD-set-other}
 use borrow.Author.Tests.{ltb-true, ltb-false, leb-true, leb-false, eqb-true, eqb-false, not-false, lt-ltb, le-ltb, le-leb, lt-leb, eq-eqb, ne-eqb}
 use Rattle.meaning.specs.Tests.{every, between}
-use Rattle.meaning.specs.Order.{entryLimit, atMost, raised}
-use Rattle.meaning.specs.Operations.{numberOf, valueLimit}
+use Rattle.meaning.specs.Order.{Vector, entryLimit, atMost, raised}
+use Rattle.meaning.specs.Operations.{Operation, numberOf, valueLimit}
 use Rattle.meaning.specs.Arrival.{rowsAfter}
 use Rattle.meaning.specs.Table.{Header, Table, kindIn}
 use Rattle.meaning.specs.Questions.{Asked, Source, asksTotal, asksList, asksHolds, fits}
 use Rattle.meaning.specs.Refusals.{firstOf, Frame, Local, wellShaped, declared, operationAllowed, inTime, frameRefusals, roomFor, arrivalRefusals, refusalOfFrame, issuedBy, localRefusals, refusalOfLocal, settlingRefusals, refusalOfSettling, wellAsked, listTooLong, questionRefusals}
 use Rattle.meaning.proofs.Tests.{cases, and-left, and-right, and-fails, and-rest, or-left-fails, or-right-fails, between-out, between-in}
-use Rattle.meaning.proofs.Vectors.{at-most-at, raised-at}
+use Rattle.meaning.proofs.Vectors.{at-most-at, at-most-by, raised-at}
 use Rattle.meaning.proofs.Refusals.{exactly-when}
 
 -- A frame that passes "1 to 7, 8".
@@ -82,6 +83,26 @@ frame-passes table frame a =
 -- "Bad input gets exactly the refusal number ... and only then": a frame is accepted exactly when all of this holds.
 pub frame-exactly : (table : Table) (frame : Frame) → (refusalOfFrame table frame ≡ 0) ↔ FrameAccepted table frame
 frame-exactly table frame = (frame-accepted table frame, frame-passes table frame)
+
+-- 6: "number above D[sender] + 1, or another entry above D": not given exactly where neither is so.
+pub in-time-exactly : (clock : Vector) (u : Operation) → length (u .vector) ≡ length clock → u .sender < length clock →
+    (inTime clock u ≡ true) ↔ ((numberOf u ≤ suc (getD clock (u .sender) 0)) × ((i : ℕ) → i ≢ u .sender → getD (u .vector) i 0 ≤ getD clock i 0))
+unfolding inTime numberOf
+in-time-exactly clock u long there = (
+  λ e. (
+    let most = at-most-at (u .vector) (raised clock (u .sender)) e (u .sender) in let same = here in omega arith,
+    λ i d. let most = at-most-at (u .vector) (raised clock (u .sender)) e i in let same = other i d in omega arith,
+  ),
+  λ h. at-most-by (u .vector) (raised clock (u .sender)) (let l = length-set clock (u .sender) (suc (getD clock (u .sender) 0)) in omega arith) (λ i. cases (eqb i (u .sender))
+      (λ q. rw (eqb-true i (u .sender) q) (let n = h .0 in let same = here in omega arith))
+      (λ q. let d = eqb-false i (u .sender) q in let n = h .1 i d in let same = other i d in omega arith)),
+)
+  where
+    here : getD (raised clock (u .sender)) (u .sender) 0 ≡ suc (getD clock (u .sender) 0)
+    here = raised-at clock (u .sender) there
+
+    other : (i : ℕ) → i ≢ u .sender → getD (raised clock (u .sender)) i 0 ≡ getD clock i 0
+    other i d = getD-set-other clock (u .sender) i (suc (getD clock (u .sender) 0)) 0 d
 
 -- refusals 5 and 6 leave one number: the next
 pub next-number : (table : Table) (frame : Frame) → length (table .clock) ≡ table .header .size → FrameAccepted table frame → numberOf (frame .operation) ≡ suc (getD (table .clock) (frame .operation .sender) 0)

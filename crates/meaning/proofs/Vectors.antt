@@ -86,6 +86,11 @@ at-most-at (x ∷ u) [] p i = absurd (false≢true p)
 at-most-at (x ∷ u) (y ∷ v) p zero = down x y u v p .0
 at-most-at (x ∷ u) (y ∷ v) p (suc i) = at-most-at u v (down x y u v p .1) i
 
+pub at-most-by : (u v : List ℕ) → length u ≤ length v → ((i : ℕ) → getD u i 0 ≤ getD v i 0) → atMost u v ≡ true
+at-most-by [] v h f = refl
+at-most-by (x ∷ u) [] h f = absurd (not-suc-le-zero h)
+at-most-by (x ∷ u) (y ∷ v) h f = up x y u v (f 0) (at-most-by u v (le-of-suc-le-suc h) (λ i. f (suc i)))
+
 -- an entry that is higher: not at or below
 pub higher : (u v : List ℕ) (i : ℕ) → getD v i 0 < getD u i 0 → atMost u v ≡ false
 higher u v i h = fails (atMost u v) (λ p. let k = at-most-at u v p i in omega arith)
