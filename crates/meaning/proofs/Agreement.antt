@@ -1,17 +1,16 @@
 -- "So stations that accepted the same operations agree, and fully settled ones hold the same bytes."
-use mathlib.Core.Path.{_≡_, refl, sym, _∙_, ap, ap₂, subst}
-use mathlib.Core.Bool.{Bool, true, false, not, _&&_, _||_, cond, false≢true}
-use mathlib.Core.Logic.{_⊎_, inl, inr, ⊎-elim, _≢_}
-use mathlib.Core.List.{List, [], _∷_, _++_, List·Memᴰ, List·Memᴰ·head, List·Memᴰ·tail, List·Memᴰ·cases-cons, Memᴰ·cast}
-use Prim.Native.Nat.{ℕ, zero, suc, _+_, _<_, _≤_}
+use mathlib.Core.Path.{_≡_, refl, sym, _∙_, ap, subst}
+use mathlib.Core.Bool.{Bool, true, false, not, _&&_, _||_}
+use mathlib.Core.Logic.{⊎-elim}
+use mathlib.Core.List.{List, [], _∷_, List·Memᴰ, List·Memᴰ·cases-cons, Memᴰ·cast}
+use Prim.Native.Nat.{ℕ, _<_, _≤_}
 use native.Mathlib.Omega.{arith}
-use lib.Dec.{leb, ltb, eqb}
+use lib.Dec.{eqb}
 use lib.IntN.{ℤ, pos, negsuc, natAbs}
 use lib.ListN.{getD, length}
 use lib.Seq.{ext-getD}
 use borrow.Author.Tests.{eqb-true}
 use Rattle.meaning.specs.Tests.{any}
-use Rattle.meaning.specs.Order.{Vector, atMost}
 use Rattle.meaning.specs.Operations.{Operation, before, isCounter, codeAllowed}
 use Rattle.meaning.specs.Meaning.{on, addOf, removeOf, clearOf, ends, survives, stands, inGrowSet, inTwoPhaseSet, inBySurvival, inByStanding, isIn, totalOf, countOf}
 use Rattle.meaning.specs.Rows.{Row, settledRow, unsettledCount, lowerRow}
@@ -23,20 +22,18 @@ use Rattle.meaning.specs.Calls.{askOf, ask, meant}
 use Rattle.meaning.specs.History.{Event, Station, reached}
 use Rattle.meaning.proofs.Tests.{cases, clash, iff, and-left, and-right, and-both, fails-not, or-cases, any-in, any-out, any-none, any-cong, not-holds}
 use Rattle.meaning.proofs.Vectors.{at-most-at}
-use Rattle.meaning.proofs.Ascending.{Sorted, asc-eq, row-irreflexive, row-trans}
-use Rattle.meaning.proofs.OneValue.{add-on, remove-on}
+use Rattle.meaning.proofs.Ascending.{asc-eq, row-irreflexive, row-trans}
 use Rattle.meaning.proofs.RowLaws.{on-eq, on-self}
-use Rattle.meaning.proofs.KindGroups.{Group, counting, keeping, surviving, standing, group}
-use Rattle.meaning.proofs.Steps.{add-code}
-use Rattle.meaning.proofs.TableFacts.{Facts, RowFacts, facts}
+use Rattle.meaning.proofs.KindGroups.{counting, keeping, surviving, standing, group}
+use Rattle.meaning.proofs.TableFacts.{facts}
 use Rattle.meaning.proofs.Totals.{total-same}
 use Rattle.meaning.proofs.Lists.{list-same}
-use Rattle.meaning.proofs.Asking.{Alike, replies-alike}
+use Rattle.meaning.proofs.Asking.{replies-alike}
 use Rattle.meaning.proofs.Histories.{Cell, Faithful}
 use Rattle.meaning.proofs.Demand3.{Sound, reached-sound, every-answer}
-use Rattle.meaning.proofs.Survival as AW
-use Rattle.meaning.proofs.Standing as RW
-use Rattle.meaning.proofs.Keeping as KP
+use Rattle.meaning.proofs.Survival
+use Rattle.meaning.proofs.Standing
+use Rattle.meaning.proofs.Keeping
 
 -- every operation of the one list is in the other
 abbrev pub Within : List Operation → List Operation → Type 0
@@ -116,12 +113,12 @@ unfolding removeOf
 has-remove o v rows all r w p e = has-row 2 o v rows all r w p e
 
 -- kinds 6 and 9 keep no settled remove without an unsettled add
-no-remove : (o v : ℕ) (st : Operation → Bool) (accepted : List Operation) (rows : List Row) → ((r : Row) → List·Memᴰ r rows → r .settled ≡ true) → RW.Inv o v st accepted rows → any (λ (r : Row). removeOf o v (r .operation)) rows ≡ false
-unfolding RW.Fit
+no-remove : (o v : ℕ) (st : Operation → Bool) (accepted : List Operation) (rows : List Row) → ((r : Row) → List·Memᴰ r rows → r .settled ≡ true) → Standing.Inv o v st accepted rows → any (λ (r : Row). removeOf o v (r .operation)) rows ≡ false
+unfolding Standing.Fit
 no-remove o v st accepted rows all I =
-    let none : (p : Operation → Bool) → RW.ub p rows ≡ false = λ p. any-none (λ (r : Row). not (r .settled) && p (r .operation)) rows (λ r m. rw (all r m)) in
-    let f : RW.fb (removeOf o v) rows ≡ false = RW.ok-still (RW.fb (addOf o v) rows) (RW.fb (removeOf o v) rows) (RW.lb o v (addOf o v) accepted) (RW.lb o v (removeOf o v) accepted) (rw (none (addOf o v), none (removeOf o v)) at (I .fit)) in
-    RW.split (removeOf o v) rows ∙ rw (none (removeOf o v), f)
+    let none : (p : Operation → Bool) → Standing.ub p rows ≡ false = λ p. any-none (λ (r : Row). not (r .settled) && p (r .operation)) rows (λ r m. rw (all r m)) in
+    let f : Standing.fb (removeOf o v) rows ≡ false = Standing.ok-still (Standing.fb (addOf o v) rows) (Standing.fb (removeOf o v) rows) (Standing.lb o v (addOf o v) accepted) (Standing.lb o v (removeOf o v) accepted) (rw (none (addOf o v), none (removeOf o v)) at (I .fit)) in
+    Standing.split (removeOf o v) rows ∙ rw (none (removeOf o v), f)
 
 -- a row of one settled station is a row of the other
 module _ (here there : Station) (kinds : (o : ℕ) → kindIn (here .table .header) o ≡ kindIn (there .table .header) o) (is : isTable (here .table) ≡ true) (is′ : isTable (there .table) ≡ true) (G : Faithful here) (G′ : Faithful there)
@@ -135,7 +132,7 @@ module _ (here there : Station) (kinds : (o : ℕ) → kindIn (here .table .head
   whole : (r : Row) → List·Memᴰ r rows′ → r ≡ settledRow (r .operation)
   whole r m = facts (there .table) is′ .row-facts r m .without-tag (all′ r m)
 
-  carry-kept : (k : ℕ) (r : Row) → List·Memᴰ r rows → r ≡ settledRow (r .operation) → KP.Inv k (r .operation .object) (r .operation .value) (here .accepted) rows → KP.Inv k (r .operation .object) (r .operation .value) (there .accepted) rows′ → List·Memᴰ r rows′
+  carry-kept : (k : ℕ) (r : Row) → List·Memᴰ r rows → r ≡ settledRow (r .operation) → Keeping.Inv k (r .operation .object) (r .operation .value) (here .accepted) rows → Keeping.Inv k (r .operation .object) (r .operation .value) (there .accepted) rows′ → List·Memᴰ r rows′
   carry-kept k r m w I I′ =
       let o = r .operation .object in let v = r .operation .value in
       let adds = any-same (here .accepted) (there .accepted) to from (addOf o v) (addOf o v) (λ _. refl) in
@@ -145,19 +142,19 @@ module _ (here there : Station) (kinds : (o : ℕ) → kindIn (here .table .head
       (λ p. has-remove o v rows′ whole r w p (I′ .rems ∙ sym rems ∙ sym (I .rems) ∙ any-in (λ (x : Row). removeOf o v (x .operation)) m p))
       (or-cases (addOf o v (r .operation)) (removeOf o v (r .operation)) (I .coded r m (on-self (r .operation))))
 
-  carry-surviving : (k : ℕ) (r : Row) → List·Memᴰ r rows → r ≡ settledRow (r .operation) → AW.Inv k (r .operation .object) (r .operation .value) (stable (here .table)) (here .accepted) rows → AW.Inv k (r .operation .object) (r .operation .value) (stable (there .table)) (there .accepted) rows′ → List·Memᴰ r rows′
+  carry-surviving : (k : ℕ) (r : Row) → List·Memᴰ r rows → r ≡ settledRow (r .operation) → Survival.Inv k (r .operation .object) (r .operation .value) (stable (here .table)) (here .accepted) rows → Survival.Inv k (r .operation .object) (r .operation .value) (stable (there .table)) (there .accepted) rows′ → List·Memᴰ r rows′
   carry-surviving k r m w I I′ =
       let o = r .operation .object in let v = r .operation .value in
       let p = I .root (r .operation) (subst (λ (g : Bool). List·Memᴰ (record { settled = g; operation = r .operation }) rows) (all r m) m) (on-self (r .operation)) .0 in
-      has-add o v rows′ whole r w p (AW.answer k o v (stable (there .table)) (there .accepted) rows′ I′ ∙ sym (survival-same (here .accepted) (there .accepted) to from k o v) ∙ sym (AW.answer k o v (stable (here .table)) (here .accepted) rows I) ∙ any-in (λ (x : Row). addOf o v (x .operation)) m p)
+      has-add o v rows′ whole r w p (Survival.answer k o v (stable (there .table)) (there .accepted) rows′ I′ ∙ sym (survival-same (here .accepted) (there .accepted) to from k o v) ∙ sym (Survival.answer k o v (stable (here .table)) (here .accepted) rows I) ∙ any-in (λ (x : Row). addOf o v (x .operation)) m p)
 
-  carry-standing : (r : Row) → List·Memᴰ r rows → r ≡ settledRow (r .operation) → RW.Inv (r .operation .object) (r .operation .value) (stable (here .table)) (here .accepted) rows → RW.Inv (r .operation .object) (r .operation .value) (stable (there .table)) (there .accepted) rows′ → List·Memᴰ r rows′
+  carry-standing : (r : Row) → List·Memᴰ r rows → r ≡ settledRow (r .operation) → Standing.Inv (r .operation .object) (r .operation .value) (stable (here .table)) (here .accepted) rows → Standing.Inv (r .operation .object) (r .operation .value) (stable (there .table)) (there .accepted) rows′ → List·Memᴰ r rows′
   carry-standing r m w I I′ =
       let o = r .operation .object in let v = r .operation .value in
       let n = no-remove o v (stable (here .table)) (here .accepted) rows all I in
       ⊎-elim
       (λ p. let h = and-both (any (λ (x : Row). addOf o v (x .operation)) rows) (not (any (λ (x : Row). removeOf o v (x .operation)) rows)) (any-in (λ (x : Row). addOf o v (x .operation)) m p) (fails-not (any (λ (x : Row). removeOf o v (x .operation)) rows) n) in
-      let h′ = RW.answer o v (stable (there .table)) (there .accepted) rows′ I′ ∙ sym (standing-same (here .accepted) (there .accepted) to from o v) ∙ sym (RW.answer o v (stable (here .table)) (here .accepted) rows I) ∙ h in
+      let h′ = Standing.answer o v (stable (there .table)) (there .accepted) rows′ I′ ∙ sym (standing-same (here .accepted) (there .accepted) to from o v) ∙ sym (Standing.answer o v (stable (here .table)) (here .accepted) rows I) ∙ h in
       has-add o v rows′ whole r w p (and-left (any (λ (x : Row). addOf o v (x .operation)) rows′) (not (any (λ (x : Row). removeOf o v (x .operation)) rows′)) h′))
       (λ p. clash (any (λ (x : Row). removeOf o v (x .operation)) rows) (any-in (λ (x : Row). removeOf o v (x .operation)) m p) n)
       (or-cases (addOf o v (r .operation)) (removeOf o v (r .operation)) (I .coded r m (on-self (r .operation))))
@@ -193,7 +190,7 @@ no-total : (table : Table) (o : ℕ) → isTable table ≡ true → o < length (
 unfolding totalRule
 no-total table o is d n = no-amount (getD (table .totals) o (pos 0)) (eqb-true (natAbs (getD (table .totals) o (pos 0))) 0 (rw n at (facts table is .total-rule o d)))
 
--- two stations, with the same objects, that have accepted the same operations
+-- two stations, with the same objects, that have accepted the same operations; that a header is in range is what an accepted opening gives
 module _ (header other : Header) (events happened : List Event) (range : inRange header ≡ true) (range′ : inRange other ≡ true) (objects : header .kinds ≡ other .kinds)
     (to : Within (reached header events .accepted) (reached other happened .accepted)) (from : Within (reached other happened .accepted) (reached header events .accepted)) where
   abbrev here : Station
@@ -239,7 +236,7 @@ module _ (header other : Header) (events happened : List Event) (range : inRange
       (carry here there kinds-equal (S .is-table) (S′ .is-table) (S .is-faithful) (S′ .is-faithful) all all′ to from)
       (carry there here (λ o. sym (kinds-equal o)) (S′ .is-table) (S .is-table) (S′ .is-faithful) (S .is-faithful) all′ all from to)
 
-  -- their totals are the same, settled or not
+  -- "stations that accepted the same operations agree": their totals are the same, settled or not.
   pub equal-totals : here .table .totals ≡ there .table .totals
   equal-totals =
       let F = facts (here .table) (S .is-table) in
@@ -251,7 +248,7 @@ module _ (header other : Header) (events happened : List Event) (range : inRange
       (λ c. S .is-faithful .totals-right o c ∙ total-equal o ∙ sym (S′ .is-faithful .totals-right o (ap isCounter (sym (kinds-equal o)) ∙ c)))
       (λ c. no-total (here .table) o (S .is-table) (omega arith) c ∙ sym (no-total (there .table) o (S′ .is-table) (omega arith) (ap isCounter (sym (kinds-equal o)) ∙ c))))
 
-  -- in groups of one size, so are their clocks
+  -- "stations that accepted the same operations agree": in groups of one size, their clocks are the same.
   pub equal-clocks : header .size ≡ other .size → here .table .clock ≡ there .table .clock
   equal-clocks sizes =
       let F = facts (here .table) (S .is-table) in

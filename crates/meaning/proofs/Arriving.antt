@@ -1,24 +1,24 @@
 -- An accepted operation is after all that is stable, and before nothing that was accepted.
-use mathlib.Core.Path.{_≡_, refl, sym, _∙_, ap, subst}
-use mathlib.Core.Bool.{Bool, true, false, not, _&&_, _||_, cond, false≢true}
-use mathlib.Core.List.{List, [], _∷_, _++_, List·Memᴰ, List·Memᴰ·head, List·Memᴰ·tail}
-use Prim.Native.Nat.{ℕ, zero, suc, _<_, _≤_}
+use mathlib.Core.Path.{_≡_}
+use mathlib.Core.Bool.{true, false}
+use mathlib.Core.List.{List, [], _∷_, List·Memᴰ}
+use Prim.Native.Nat.{ℕ, suc, _<_}
 use native.Mathlib.Omega.{arith}
-use lib.Dec.{leb, ltb, eqb}
+use lib.Dec.{eqb}
 use lib.ListN.{getD, set, length}
-use borrow.Author.Tests.{eqb-true, eqb-false}
+use borrow.Author.Tests.{eqb-true}
 use Rattle.meaning.specs.Order.{Vector, atMost, raised, othersOf, lowOf}
 use Rattle.meaning.specs.Operations.{Operation, numberOf, before, codeAllowed, valueAllowed, allowed}
 use Rattle.meaning.specs.Settling.{stableBy}
-use Rattle.meaning.specs.Table.{Header, Table, kindIn, low, stable, isTable}
+use Rattle.meaning.specs.Table.{Table, kindIn, low, stable, isTable}
 use Rattle.meaning.specs.Refusals.{Frame, Local, issuedBy, refusalOfFrame, refusalOfLocal, refusalOfSettling, operationAllowed}
-use Rattle.meaning.specs.Calls.{withRows, afterArrival, outcome, receive, issue, settle, rowsSettled, steps}
+use Rattle.meaning.specs.Calls.{withRows, afterArrival, outcome, receive, issue, settle, rowsSettled}
 use Rattle.meaning.specs.History.{Event, receives, issues, settles, Station, afterOutcome, afterSettling, after}
-use Rattle.meaning.proofs.Tests.{cases, clash, fails, and-left, and-right}
+use Rattle.meaning.proofs.Tests.{cases, and-left}
 use Rattle.meaning.proofs.Vectors.{at-most-refl, at-most-trans, before-by, not-before, higher, at-most-at, at-most-raised, raised-at, low-under, low-i, low-up, others-mem}
 use Rattle.meaning.proofs.OneValue.{Fresh}
-use Rattle.meaning.proofs.Acceptance.{FrameAccepted, frame-accepted, next-number, LocalAccepted, local-accepted}
-use Rattle.meaning.proofs.TableFacts.{Facts, facts}
+use Rattle.meaning.proofs.Acceptance.{frame-accepted, next-number, local-accepted}
+use Rattle.meaning.proofs.TableFacts.{facts}
 
 -- what a frame and a local operation have in common once they are accepted; last′ is L afterwards
 pub record Accepts (table : Table) (u : Operation) (last′ : List Vector) : Type 0 where

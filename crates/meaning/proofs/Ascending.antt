@@ -1,15 +1,15 @@
 -- Ascending lists: equal where their members are; and the order of rows.
-use mathlib.Core.Path.{_≡_, refl, sym, _∙_, ap, ap₂, subst}
-use mathlib.Core.Bool.{Bool, true, false, not, _&&_, _||_, cond, false≢true}
+use mathlib.Core.Path.{_≡_, refl, sym, _∙_, ap₂, subst}
+use mathlib.Core.Bool.{Bool, true, false, _&&_, false≢true}
 use mathlib.Core.Logic.{_⊎_, inl, inr, ⊎-elim, _≢_}
 use mathlib.Core.List.{List, [], _∷_, _++_, List·Memᴰ, List·Memᴰ·head, List·Memᴰ·tail, List·Memᴰ·cases-cons, Memᴰ·append-left, Memᴰ·append-right, List·Memᴰ·append-cases}
-use Prim.Native.Nat.{ℕ, zero, suc, _<_, _≤_}
+use Prim.Native.Nat.{ℕ, _<_}
 use native.Mathlib.Omega.{arith}
-use lib.Dec.{leb, ltb, eqb}
-use borrow.Author.Tests.{ltb-true, ltb-false, eqb-true, eqb-false, eq-eqb, ne-eqb, lt-ltb}
+use lib.Dec.{ltb, eqb}
+use borrow.Author.Tests.{ltb-true, eqb-true, eqb-false, eq-eqb, lt-ltb}
 use Rattle.meaning.specs.Tests.{every, those}
-use Rattle.meaning.specs.Rows.{Row, keyOf, lowerKey, lowerRow, inOrder, insertRow}
-use Rattle.meaning.proofs.Tests.{cases, clash, fails, and-left, and-right, and-both, or-cases, or-left, or-right, on-cons, those-out, every-out, every-in}
+use Rattle.meaning.specs.Rows.{Row, keyOf, lowerKey, lowerRow, inOrder}
+use Rattle.meaning.proofs.Tests.{cases, clash, fails, and-left, and-right, and-both, or-cases, or-left, or-right, those-out, every-out, every-in}
 
 module _ {A : Type 0} (lt : A → A → Bool) where
   abbrev pub Asc : List A → Type 0

@@ -1,18 +1,18 @@
 -- Two who answer alike about the declared objects reply alike to every question, refusals included.
-use mathlib.Core.Path.{_≡_, refl, sym, _∙_, ap, ap₂, subst}
-use mathlib.Core.Bool.{Bool, true, false, not, _&&_, _||_, cond, false≢true}
-use mathlib.Core.Logic.{_⊎_, inl, inr, ⊎-elim}
-use mathlib.Core.List.{List, [], _∷_}
+use mathlib.Core.Path.{_≡_, refl, sym, _∙_, ap}
+use mathlib.Core.Bool.{true, false, _||_, cond}
+use mathlib.Core.Logic.{⊎-elim}
+use mathlib.Core.List.{List}
 use Prim.Native.Nat.{ℕ, _<_}
 use lib.Dec.{ltb, eqb}
 use lib.ListN.{length}
 use borrow.Author.Tests.{eqb-true, ltb-true}
 use Rattle.meaning.specs.Operations.{isCounter, isFlag}
 use Rattle.meaning.specs.Table.{Header, kindIn}
-use Rattle.meaning.specs.Questions.{Asked, Answer, total, flag, list, count, holds, Source, fits, answerFrom}
-use Rattle.meaning.specs.Refusals.{firstOf, wellAsked, declared, listTooLong, questionRefusals}
+use Rattle.meaning.specs.Questions.{Asked, total, flag, list, count, holds, Source, fits, answerFrom}
+use Rattle.meaning.specs.Refusals.{wellAsked, declared, listTooLong, questionRefusals}
 use Rattle.meaning.specs.Calls.{Reply, replyOf, askOf}
-use Rattle.meaning.proofs.Tests.{cases, clash, and-left, not-holds, or-cases, or-left-fails}
+use Rattle.meaning.proofs.Tests.{cases, and-left, not-holds, or-cases, or-left-fails}
 
 pub record Alike (kind : ℕ) (source other : Source) (o : ℕ) : Type 0 where
   pub totals : isCounter kind ≡ true → source .totalAt o ≡ other .totalAt o

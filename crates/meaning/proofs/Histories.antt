@@ -1,43 +1,43 @@
 -- Any history of a table from its opening: what its rows and totals have to do with all that was accepted.
-use mathlib.Core.Path.{_≡_, refl, sym, _∙_, ap, ap₂, subst, subst₂}
-use mathlib.Core.Bool.{Bool, true, false, not, _&&_, _||_, cond, false≢true}
-use mathlib.Core.Logic.{_⊎_, inl, inr, ⊎-elim, _≢_}
+use mathlib.Core.Path.{_≡_, refl, sym, _∙_, ap, subst}
+use mathlib.Core.Bool.{Bool, true, false}
+use mathlib.Core.Logic.{_⊎_, inl, inr, ⊎-elim}
 use mathlib.Core.List.{List, [], _∷_, _++_, List·Memᴰ, List·Memᴰ·head, List·Memᴰ·tail}
-use Prim.Native.Nat.{ℕ, zero, suc, _<_, _≤_}
+use Prim.Native.Nat.{ℕ, zero, suc}
 use native.Mathlib.Omega.{arith}
-use lib.Dec.{leb, ltb, eqb}
-use lib.IntN.{ℤ, pos}
-use lib.ListN.{getD, set, length, replicate}
+use lib.Dec.{eqb}
+use lib.IntN.{pos}
+use lib.ListN.{getD, length, replicate}
 use lib.Seq.{getD-set-other}
 use borrow.Author.Tests.{eqb-true, eqb-false}
 use Rattle.meaning.specs.Tests.{any}
 use Rattle.meaning.specs.Order.{Vector, atMost, raised}
 use Rattle.meaning.specs.Operations.{Operation, isCounter, removesStand, codeAllowed}
-use Rattle.meaning.specs.Meaning.{on, addOf, removeOf, totalOf, inGrowSet, isIn}
+use Rattle.meaning.specs.Meaning.{on, addOf, totalOf, inGrowSet, isIn}
 use Rattle.meaning.specs.Rows.{Row, unsettledRow, removeRowsCount, isInByRows}
 use Rattle.meaning.specs.Arrival.{concerns, rowBefore, takenBy, getsRow, rowsAfter}
-use Rattle.meaning.specs.Settling.{stableBy, stepAt, settledRows}
+use Rattle.meaning.specs.Settling.{stableBy, stepAt}
 use Rattle.meaning.specs.Table.{Header, Table, kindIn, low, stable, zeros, opened, isTable}
-use Rattle.meaning.specs.Calls.{withRows, afterArrival, rowsSettled}
+use Rattle.meaning.specs.Calls.{afterArrival, rowsSettled}
 use Rattle.meaning.specs.History.{Event, Station, after}
-use Rattle.meaning.proofs.Tests.{cases, clash, and-left, on-cons}
+use Rattle.meaning.proofs.Tests.{and-true, cases, clash, on-cons}
 use Rattle.meaning.proofs.Vectors.{at-most-trans, at-most-raised, raised-at}
-use Rattle.meaning.proofs.OneValue.{gone, touches, concerns-touches, Arrived, Fresh, add-on}
+use Rattle.meaning.proofs.OneValue.{gone, concerns-touches, Arrived, Fresh, add-on}
 use Rattle.meaning.proofs.RowLaws.{on-eq, Tagged, tagged-rows, arrival-back, arrival-kept, arrival-new, concerns-object, other-back, other-kept, steps-elim}
 use Rattle.meaning.proofs.KindGroups.{Keeper, Survivor, Stander, Group, counting, keeping, surviving, standing, at-keeper, at-survivor, at-stander, survivor-tagged, stander-tagged, survivor-stands-not, stander-stands, stander-no-register, survivor-gets, stander-gets, survivor-law}
 use Rattle.meaning.proofs.Steps.{add-stepped, rem-stepped}
 use Rattle.meaning.proofs.Arriving.{Accepts, unseen, fresh, arrived, calmed, event-elim}
 use Rattle.meaning.proofs.TableFacts.{facts}
 use Rattle.meaning.proofs.Totals.{Once, totals-after}
-use Rattle.meaning.proofs.Survival as AW
-use Rattle.meaning.proofs.Standing as RW
-use Rattle.meaning.proofs.Keeping as KP
+use Rattle.meaning.proofs.Survival
+use Rattle.meaning.proofs.Standing
+use Rattle.meaning.proofs.Keeping
 
 -- the invariant of one value of one object of kind k
 pub record Cell (k o v : ℕ) (st : Operation → Bool) (accepted : List Operation) (rows : List Row) : Type 0 where
-  pub keeps : Keeper k → KP.Inv k o v accepted rows
-  pub survives : Survivor k → AW.Inv k o v st accepted rows
-  pub stands : Stander k → RW.Inv o v st accepted rows
+  pub keeps : Keeper k → Keeping.Inv k o v accepted rows
+  pub survives : Survivor k → Survival.Inv k o v st accepted rows
+  pub stands : Stander k → Standing.Inv o v st accepted rows
 
 -- an arrival in kinds 5 to 9; ka is the kind of its own object
 taken-gone : (k o v : ℕ) (t : Operation) (r : Row) → on o v (r .operation) ≡ true → takenBy k t r ≡ gone (concerns k o v t) t r
@@ -69,15 +69,15 @@ module _ (table : Table) (accepted : List Operation) (u : Operation) (last′ : 
       let e : u .object ≡ o → ka ≡ k = ap (kindIn (table .header)) in
       let l : on o v u ≡ true → codeAllowed k (u .code) ≡ true = λ p. subst (λ (j : ℕ). codeAllowed j (u .code) ≡ true) (e (on-eq o v u p .0)) (ac .code-allowed) in
       record {
-        keeps = λ h. KP.arrive-inv k ka o v u accepted rows h e (ac .code-allowed) (C .keeps h);
-        survives = λ h. AW.arrive-inv k o v u accepted (stable table) (stable (afterArrival table u last′)) rows (rowsAfter ka u rows) F (law k o v h e)
+        keeps = λ h. Keeping.arrive-inv k ka o v u accepted rows h e (ac .code-allowed) (C .keeps h);
+        survives = λ h. Survival.arrive-inv k o v u accepted (stable table) (stable (afterArrival table u last′)) rows (rowsAfter ka u rows) F (law k o v h e)
             (value-arrives k ka o v u rows (addOf o v) (survivor-tagged k h) e (λ p. survivor-gets k o v u h (l p) p) (add-on o v u)) (C .survives h);
-        stands = λ h. RW.arrive-inv o v u accepted (stable table) (stable (afterArrival table u last′)) rows (rowsAfter ka u rows) F
-            (subst (λ (b : Bool). Arrived o v b (RW.puts o v) u rows (rowsAfter ka u rows)) (concerns-touches k o v u (stander-no-register k h))
-            (value-arrives k ka o v u rows (RW.puts o v) (stander-tagged k h) e (λ p. stander-gets k o v u h (l p) p) (RW.puts-on o v u))) (C .stands h);
+        stands = λ h. Standing.arrive-inv o v u accepted (stable table) (stable (afterArrival table u last′)) rows (rowsAfter ka u rows) F
+            (subst (λ (b : Bool). Arrived o v b (Standing.puts o v) u rows (rowsAfter ka u rows)) (concerns-touches k o v u (stander-no-register k h))
+            (value-arrives k ka o v u rows (Standing.puts o v) (stander-tagged k h) e (λ p. stander-gets k o v u h (l p) p) (Standing.puts-on o v u))) (C .stands h);
       }
     where
-      law : (k o v : ℕ) → Survivor k → (u .object ≡ o → kindIn (table .header) (u .object) ≡ k) → AW.Law k o v u
+      law : (k o v : ℕ) → Survivor k → (u .object ≡ o → kindIn (table .header) (u .object) ≡ k) → Survival.Law k o v u
       law k o v h e c n = cases (eqb (u .object) o)
           (λ q. survivor-law k o v u h (subst (λ (j : ℕ). codeAllowed j (u .code) ≡ true) (e (eqb-true (u .object) o q)) (ac .code-allowed)) c n)
           (λ q. clash (concerns k o v u) c (concerns-object k o v u (λ f. eqb-false (u .object) o q (sym f))))
@@ -90,10 +90,10 @@ cell-steps table accepted a b w due o v C =
     let kk = kindIn (table .header) (w .object) in
     let same : on o v w ≡ true → kk ≡ k = λ p. ap (kindIn (table .header)) (on-eq o v w p .0) in
     record {
-      keeps = λ h. KP.same-inv k o v accepted (a ++ (unsettledRow w ∷ b)) (stepAt kk a w b) (KP.step-same k o v kk a b w accepted (C .keeps h)) (C .keeps h);
-      survives = λ h. AW.step-inv k o v w accepted (stable table) (λ u m. at-most-trans (u .vector) (w .vector) (low table) m due) (a ++ (unsettledRow w ∷ b)) (stepAt kk a w b)
+      keeps = λ h. Keeping.same-inv k o v accepted (a ++ (unsettledRow w ∷ b)) (stepAt kk a w b) (Keeping.step-same k o v kk a b w accepted (C .keeps h)) (C .keeps h);
+      survives = λ h. Survival.step-inv k o v w accepted (stable table) (λ u m. at-most-trans (u .vector) (w .vector) (low table) m due) (a ++ (unsettledRow w ∷ b)) (stepAt kk a w b)
           (add-stepped k kk o v w a b (λ p. ap removesStand (same p) ∙ survivor-stands-not k h)) (C .survives h);
-      stands = λ h. RW.step-inv o v w accepted (stable table) due (a ++ (unsettledRow w ∷ b)) (stepAt kk a w b)
+      stands = λ h. Standing.step-inv o v w accepted (stable table) due (a ++ (unsettledRow w ∷ b)) (stepAt kk a w b)
           (rem-stepped k kk o v w a b (λ p. ap removesStand (same p) ∙ stander-stands k h)) (C .stands h);
     }
 
@@ -143,7 +143,7 @@ faithful-opened header = record {
   once = tt;
   heard = λ s. inl (none (header .size) s);
   totals-right = λ o _. nothing (length (header .kinds)) o;
-  cells = λ o v. record { keeps = λ _. KP.empty-inv (kindIn header o) o v; survives = λ _. AW.empty-inv (kindIn header o) o v (stable (opened header)); stands = λ _. RW.empty-inv o v (stable (opened header)) };
+  cells = λ o v. record { keeps = λ _. Keeping.empty-inv (kindIn header o) o v; survives = λ _. Survival.empty-inv (kindIn header o) o v (stable (opened header)); stands = λ _. Standing.empty-inv o v (stable (opened header)) };
 }
   where
     nothing : (n o : ℕ) → getD (replicate n (pos 0)) o (pos 0) ≡ pos 0
@@ -157,20 +157,16 @@ faithful-opened header = record {
     none (suc n) (suc s) = none n s
 
 -- the answer at one value, in kinds 3 to 9
-and-true : (a : Bool) → (a && true) ≡ a
-and-true true = refl
-and-true false = refl
-
 pub cell-answer : (k o v : ℕ) (st : Operation → Bool) (accepted : List Operation) (rows : List Row) → isCounter k ≡ false → Group k → Cell k o v st accepted rows → isInByRows k o v rows ≡ isIn k o v accepted
 unfolding isInByRows isIn removeRowsCount removesStand inGrowSet
 cell-answer k o v st accepted rows h (counting c) C = clash (isCounter k) c h
-cell-answer k o v st accepted rows h (keeping g) C = at-keeper (λ (j : ℕ). (Keeper j → KP.Inv j o v accepted rows) → isInByRows j o v rows ≡ isIn j o v accepted)
-    (λ I. and-true (any (λ (r : Row). addOf o v (r .operation)) rows) ∙ KP.answer3 o v accepted rows (I (inl refl)))
-    (λ I. KP.answer 4 o v accepted rows (I (inr refl))) k g (C .keeps)
-cell-answer k o v st accepted rows h (surviving g) C = at-survivor (λ (j : ℕ). (Survivor j → AW.Inv j o v st accepted rows) → isInByRows j o v rows ≡ isIn j o v accepted)
-    (λ I. and-true (any (λ (r : Row). addOf o v (r .operation)) rows) ∙ AW.answer 5 o v st accepted rows (I (inl refl)))
-    (λ I. and-true (any (λ (r : Row). addOf o v (r .operation)) rows) ∙ AW.answer 7 o v st accepted rows (I (inr (inl refl))))
-    (λ I. and-true (any (λ (r : Row). addOf o v (r .operation)) rows) ∙ AW.answer 8 o v st accepted rows (I (inr (inr refl)))) k g (C .survives)
-cell-answer k o v st accepted rows h (standing g) C = at-stander (λ (j : ℕ). (Stander j → RW.Inv o v st accepted rows) → isInByRows j o v rows ≡ isIn j o v accepted)
-    (λ I. RW.answer o v st accepted rows (I (inl refl)))
-    (λ I. RW.answer o v st accepted rows (I (inr refl))) k g (C .stands)
+cell-answer k o v st accepted rows h (keeping g) C = at-keeper (λ (j : ℕ). (Keeper j → Keeping.Inv j o v accepted rows) → isInByRows j o v rows ≡ isIn j o v accepted)
+    (λ I. and-true (any (λ (r : Row). addOf o v (r .operation)) rows) ∙ Keeping.answer3 o v accepted rows (I (inl refl)))
+    (λ I. Keeping.answer 4 o v accepted rows (I (inr refl))) k g (C .keeps)
+cell-answer k o v st accepted rows h (surviving g) C = at-survivor (λ (j : ℕ). (Survivor j → Survival.Inv j o v st accepted rows) → isInByRows j o v rows ≡ isIn j o v accepted)
+    (λ I. and-true (any (λ (r : Row). addOf o v (r .operation)) rows) ∙ Survival.answer 5 o v st accepted rows (I (inl refl)))
+    (λ I. and-true (any (λ (r : Row). addOf o v (r .operation)) rows) ∙ Survival.answer 7 o v st accepted rows (I (inr (inl refl))))
+    (λ I. and-true (any (λ (r : Row). addOf o v (r .operation)) rows) ∙ Survival.answer 8 o v st accepted rows (I (inr (inr refl)))) k g (C .survives)
+cell-answer k o v st accepted rows h (standing g) C = at-stander (λ (j : ℕ). (Stander j → Standing.Inv o v st accepted rows) → isInByRows j o v rows ≡ isIn j o v accepted)
+    (λ I. Standing.answer o v st accepted rows (I (inl refl)))
+    (λ I. Standing.answer o v st accepted rows (I (inr refl))) k g (C .stands)

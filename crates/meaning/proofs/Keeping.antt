@@ -1,21 +1,21 @@
 -- Kinds 3 and 4, at one value of one object: rows give the definition's answer.
-use mathlib.Core.Path.{_≡_, refl, sym, _∙_, ap, ap₂, subst, subst₂}
-use mathlib.Core.Bool.{Bool, true, false, not, _&&_, _||_, cond, false≢true}
-use mathlib.Core.Logic.{_⊎_, inl, inr, ⊎-elim, _≢_}
-use mathlib.Core.List.{List, [], _∷_, _++_, List·Memᴰ, List·Memᴰ·head, List·Memᴰ·tail}
-use Prim.Native.Nat.{ℕ, zero, suc}
+use mathlib.Core.Path.{_≡_, refl, sym, _∙_, ap, subst, subst₂}
+use mathlib.Core.Bool.{Bool, true, false, not, _&&_, _||_, false≢true}
+use mathlib.Core.Logic.{⊎-elim}
+use mathlib.Core.List.{List, [], _∷_, _++_, List·Memᴰ}
+use Prim.Native.Nat.{ℕ}
 use native.Mathlib.Omega.{arith}
-use lib.Dec.{leb, eqb}
-use borrow.Author.Tests.{eqb-true, eqb-false, eq-eqb, ne-eqb}
+use lib.Dec.{eqb}
+use borrow.Author.Tests.{eqb-true, eqb-false}
 use Rattle.meaning.specs.Tests.{any, those}
 use Rattle.meaning.specs.Operations.{Operation, isCounter, codeAllowed}
 use Rattle.meaning.specs.Meaning.{on, addOf, removeOf, inTwoPhaseSet}
 use Rattle.meaning.specs.Rows.{Row, untagged, unsettledRow, settledRow, insertRow}
 use Rattle.meaning.specs.Arrival.{sameValue, withRow, settledArrival, rowsAfter}
 use Rattle.meaning.specs.Settling.{stepAt}
-use Rattle.meaning.proofs.Tests.{cases, clash, iff, and-left, and-right, and-both, and-fails, fails, not-holds, fails-not, or-cases, or-left, or-right, any-in, any-out, any-no, any-none, any-cong, any-or, those-in, those-out, mem-mid}
+use Rattle.meaning.proofs.Tests.{and-true, cases, clash, iff, and-both, fails, not-holds, or-cases, or-left, or-right, any-in, any-out, any-none, any-cong, any-or, those-out, mem-mid}
 use Rattle.meaning.proofs.OneValue.{remove-on, add-on, on-untagged, add-untagged, remove-untagged}
-use Rattle.meaning.proofs.RowLaws.{on-eq, on-self, same-on, ins-back, ins-new, ins-kept, put-back, put-kept, settled-rows, settled-back, settled-kept, other-back, other-kept, step-back, step-kept, dropped-same-value}
+use Rattle.meaning.proofs.RowLaws.{on-eq, on-self, same-on, ins-back, ins-new, ins-kept, put-back, settled-rows, settled-back, settled-kept, other-back, other-kept, step-back, step-kept, dropped-same-value}
 use Rattle.meaning.proofs.KindGroups.{Keeper, at-keeper, keeper-removes}
 use Rattle.meaning.proofs.Steps.{and-false, add-by, add-code, add-not-rem}
 
@@ -174,8 +174,4 @@ answer k o v accepted rows I = rw (I .rems, I .adds) (go (any (addOf o v) accept
     go false b = refl
 
 pub answer3 : (o v : ℕ) (accepted : List Operation) (rows : List Row) → Inv 3 o v accepted rows → any (λ (r : Row). addOf o v (r .operation)) rows ≡ any (addOf o v) accepted
-answer3 o v accepted rows I = I .adds ∙ rw (I .grows refl) (go (any (addOf o v) accepted))
-  where
-    go : (a : Bool) → (a && true) ≡ a
-    go true = refl
-    go false = refl
+answer3 o v accepted rows I = I .adds ∙ rw (I .grows refl) (and-true (any (addOf o v) accepted))

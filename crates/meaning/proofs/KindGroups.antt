@@ -1,9 +1,9 @@
 -- The nine kinds in four groups, and what their codes allow.
-use mathlib.Core.Path.{_≡_, refl, sym, _∙_, ap, subst}
+use mathlib.Core.Path.{_≡_, refl, sym, subst}
 use mathlib.Core.Bool.{Bool, true, false, not, _&&_, _||_, cond, false≢true}
 use mathlib.Core.Logic.{_⊎_, inl, inr, ⊎-elim}
 use mathlib.Core.List.{List, [], _∷_}
-use Prim.Native.Nat.{ℕ, zero, suc, _<_, _≤_}
+use Prim.Native.Nat.{ℕ, _≤_}
 use native.Mathlib.Omega.{arith}
 use lib.Dec.{eqb, leb}
 use borrow.Author.Tests.{eqb-true, eqb-false, leb-true, leb-false}
@@ -11,7 +11,7 @@ use Rattle.meaning.specs.Tests.{any}
 use Rattle.meaning.specs.Operations.{Operation, isCounter, removesStand, codesOf, codeAllowed}
 use Rattle.meaning.specs.Meaning.{of, on, addOf, removeOf, clearOf, ends}
 use Rattle.meaning.specs.Arrival.{concerns, getsRow}
-use Rattle.meaning.proofs.Tests.{cases, clash, or-cases, and-left, and-right}
+use Rattle.meaning.proofs.Tests.{cases, clash, or-cases}
 use Rattle.meaning.proofs.RowLaws.{Tagged}
 
 -- kinds 3 and 4 keep settled rows; 5, 7 and 8 go by survival; 6 and 9 by standing

@@ -1,17 +1,17 @@
 -- Lists: the values that are in, ascending, each once; one list has just these members.
 use mathlib.Core.Path.{_≡_, refl, sym, _∙_, ap, subst}
-use mathlib.Core.Bool.{Bool, true, false, not, _&&_, _||_, cond, false≢true}
+use mathlib.Core.Bool.{Bool, true, false, not, _&&_, cond}
 use mathlib.Core.Logic.{_⊎_, inl, inr, ⊎-elim}
 use mathlib.Core.List.{List, [], _∷_, map, List·Memᴰ, List·Memᴰ·head, List·Memᴰ·tail, List·Memᴰ·cases-cons, List·Memᴰ·eq-of-singleton}
-use Prim.Native.Nat.{ℕ, zero, suc, _<_, _≤_}
+use Prim.Native.Nat.{ℕ}
 use native.Mathlib.Omega.{arith}
-use lib.Dec.{leb, ltb, eqb}
+use lib.Dec.{ltb, eqb}
 use borrow.Author.Tests.{eqb-true, eqb-false, eq-eqb, ltb-true, ltb-false, lt-ltb, le-ltb}
 use Rattle.meaning.specs.Tests.{any, those}
 use Rattle.meaning.specs.Operations.{Operation, removesStand}
-use Rattle.meaning.specs.Meaning.{of, on, addOf, removeOf, survives, stands, inGrowSet, inTwoPhaseSet, inBySurvival, inByStanding, isIn, joinedWith, joined, valuesNamed, listOf, countOf}
-use Rattle.meaning.specs.Rows.{Row, removeRowsCount, isInByRows, listByRows, countByRows}
-use Rattle.meaning.proofs.Tests.{cases, clash, and-left, any-in, any-out, on-cons, those-in, those-out}
+use Rattle.meaning.specs.Meaning.{of, addOf, removeOf, survives, stands, inGrowSet, inTwoPhaseSet, inBySurvival, inByStanding, isIn, joinedWith, joined, valuesNamed, listOf}
+use Rattle.meaning.specs.Rows.{Row, removeRowsCount, isInByRows, listByRows}
+use Rattle.meaning.proofs.Tests.{cases, and-left, any-in, any-out, on-cons, those-in, those-out}
 use Rattle.meaning.proofs.Ascending.{Asc, asc-eq}
 use Rattle.meaning.proofs.OneValue.{add-on}
 use Rattle.meaning.proofs.RowLaws.{on-eq}

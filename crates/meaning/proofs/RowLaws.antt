@@ -1,20 +1,20 @@
 -- What an arrival and a settling step do to the rows, by membership.
-use mathlib.Core.Path.{_≡_, refl, sym, _∙_, ap, ap₂, subst, subst₂}
+use mathlib.Core.Path.{_≡_, refl, sym, _∙_, ap, subst}
 use mathlib.Core.Bool.{Bool, true, false, not, _&&_, _||_, cond, false≢true}
 use mathlib.Core.Logic.{_⊎_, inl, inr, ⊎-elim, _≢_}
 use mathlib.Core.List.{List, [], _∷_, _++_, List·Memᴰ, List·Memᴰ·head, List·Memᴰ·tail, List·Memᴰ·append-cases, List·Memᴰ·cases-cons, List·Memᴰ·eq-of-singleton, Memᴰ·append-left, Memᴰ·append-right, append-assoc, append-nil}
 use Prim.Native.Nat.{ℕ, zero, suc}
-use lib.Dec.{leb, eqb}
-use borrow.Author.Tests.{eqb-true, eqb-false, eq-eqb, ne-eqb}
+use lib.Dec.{eqb}
+use borrow.Author.Tests.{eqb-true, eq-eqb, ne-eqb}
 use Rattle.meaning.specs.Tests.{any, those}
-use Rattle.meaning.specs.Order.{Vector, atMost}
-use Rattle.meaning.specs.Operations.{Operation, before, isCounter, removesStand}
-use Rattle.meaning.specs.Meaning.{on, addOf, removeOf}
-use Rattle.meaning.specs.Rows.{Row, untagged, unsettledRow, settledRow, lowerRow, insertRow}
+use Rattle.meaning.specs.Order.{Vector}
+use Rattle.meaning.specs.Operations.{Operation, isCounter, removesStand}
+use Rattle.meaning.specs.Meaning.{on, removeOf}
+use Rattle.meaning.specs.Rows.{Row, unsettledRow, settledRow, lowerRow, insertRow}
 use Rattle.meaning.specs.Arrival.{concerns, takenBy, getsRow, withRow, taggedArrival, sameValue, settledArrival, rowsAfter}
 use Rattle.meaning.specs.Settling.{stableBy, due, addBeside, becomesSettled, droppedWith, leftBy, stepAt, stepFrom, stepOf, settledRows}
-use Rattle.meaning.proofs.Tests.{cases, clash, iff, and-left, and-right, and-both, and-fails, and-rest, fails, not-holds, fails-not, or-cases, or-left, or-right, any-in, any-out, any-no, any-none, those-in, those-out, mem-mid, mem-out, mem-into}
-use Rattle.meaning.proofs.OneValue.{remove-on, add-on, on-untagged}
+use Rattle.meaning.proofs.Tests.{cases, clash, and-left, and-right, and-both, fails, not-holds, fails-not, those-in, those-out, mem-out}
+use Rattle.meaning.proofs.OneValue.{remove-on}
 
 pub ins-back : (r : Row) (l : List Row) {x : Row} → List·Memᴰ x (insertRow r l) → (x ≡ r) ⊎ List·Memᴰ x l
 ins-back r [] {x} m = inl (List·Memᴰ·eq-of-singleton m)

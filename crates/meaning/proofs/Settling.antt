@@ -1,7 +1,7 @@
 -- Settling: the reported number, when the call ends, and that no answer changes.
 use mathlib.Core.Path.{_≡_, refl, sym, _∙_, ap, subst, subst₂}
 use mathlib.Core.Bool.{Bool, true, false, not, _&&_, _||_, cond, false≢true}
-use mathlib.Core.Logic.{_⊎_, ⊎-elim}
+use mathlib.Core.Logic.{⊎-elim}
 use mathlib.Core.List.{List, [], _∷_, _++_, List·Memᴰ, append-nil, append-assoc}
 use Prim.Native.Nat.{ℕ, zero, suc, _+_, _≤_, _<_}
 use native.Mathlib.Omega.{arith}
@@ -10,7 +10,7 @@ use lib.Dec.{eqb}
 use lib.ListN.{length}
 use Rattle.meaning.specs.Tests.{any, those}
 use Rattle.meaning.specs.Order.{Vector}
-use Rattle.meaning.specs.Operations.{Operation, isCounter, removesStand, codesOf, codeAllowed}
+use Rattle.meaning.specs.Operations.{Operation, adds, removes, isCounter, removesStand, codesOf, codeAllowed}
 use Rattle.meaning.specs.Meaning.{on, addOf, removeOf}
 use Rattle.meaning.specs.Rows.{Row, unsettledRow, settledRow, unsettledCount, removeRowsCount, isInByRows, listByRows, countByRows}
 use Rattle.meaning.specs.Arrival.{getsRow, sameValue}
@@ -18,7 +18,7 @@ use Rattle.meaning.specs.Settling.{due, addBeside, removeBeside, becomes
 use Rattle.meaning.specs.Table.{Table, kindIn, low, storable, settledOnly, isTable}
 use Rattle.meaning.specs.Questions.{Asked, byRows}
 use Rattle.meaning.specs.Calls.{withRows, rowsSettled, steps, ask}
-use Rattle.meaning.proofs.Tests.{cases, clash, iff, and-right, and-both, and-fails, fails-not, or-cases, or-left, or-right, or-left-fails, or-right-fails, any-in, any-out, any-no, any-none, any-cong, any-or, any-mid, mem-mid, mem-into}
+use Rattle.meaning.proofs.Tests.{and-true, cases, clash, iff, and-right, and-both, and-fails, fails-not, or-cases, or-left, or-right, or-left-fails, or-right-fails, any-in, any-out, any-no, any-none, any-cong, any-or, any-mid, mem-mid, mem-into}
 use Rattle.meaning.proofs.OneValue.{add-on, remove-on, add-untagged, remove-untagged}
 use Rattle.meaning.proofs.RowLaws.{on-eq, on-self, step-back, step-elim, steps-elim}
 use Rattle.meaning.proofs.Steps.{others, any-act, add-by, add-not-rem}
@@ -125,7 +125,7 @@ step-at-first kindOf lo above (x ∷ passed) below row e q =
     (step-at-first kindOf lo (above ++ (x ∷ [])) passed below row (or-right-fails (due lo x) (any (due lo) passed) e) q
     ∙ ap (λ (rows : List Row). stepAt (kindOf (row .operation .object)) rows (row .operation) below) (append-assoc above (x ∷ []) passed))
 
--- Where no row is due, a step leaves all rows.
+-- "until no stable unsettled row is left": where none is, a step leaves all rows.
 pub step-at-none : (kindOf : ℕ → ℕ) (lo : Vector) (above rows : List Row) → any (due lo) rows ≡ false → stepFrom kindOf lo above rows ≡ above ++ rows
 step-at-none kindOf lo above [] e = sym (append-nil above)
 step-at-none kindOf lo above (row ∷ rows) e =
@@ -179,7 +179,7 @@ or-nil true e = refl
 or-nil false e = e
 
 -- The codes of stored rows of kinds 5 to 9: "a clear gets none in any kind, a remove or disable gets none in kinds 5 and 8".
-pub stored-codes : (kind : ℕ) (u : Operation) → storable kind u ≡ true → settledOnly kind ≡ false → (eqb (u .code) 1 || (removesStand kind && eqb (u .code) 2)) ≡ true
+pub stored-codes : (kind : ℕ) (u : Operation) → storable kind u ≡ true → settledOnly kind ≡ false → (eqb (u .code) adds || (removesStand kind && eqb (u .code) removes)) ≡ true
 unfolding storable codeAllowed codesOf getsRow isCounter removesStand settledOnly
 stored-codes zero u s h = absurd (false≢true s)
 stored-codes (suc zero) u s h = absurd (false≢true s)
@@ -261,11 +261,7 @@ module _ (kind : ℕ) (u : Operation) (above below : List Row) where
 
   removes-stay : (removesStand kind && (eqb (u .code) 1 && not (addBeside u beside))) ≡ false → any (λ (row : Row). remove row && stays row) beside ≡ any remove beside
   unfolding droppedWith
-  removes-stay e = any-cong (λ (row : Row). remove row && stays row) remove beside (λ row _. rw e (go (remove row)))
-    where
-      go : (b : Bool) → (b && true) ≡ b
-      go true = refl
-      go false = refl
+  removes-stay e = any-cong (λ (row : Row). remove row && stays row) remove beside (λ row _. rw e (and-true (remove row)))
 
   removes-none : any remove beside ≡ false → any (λ (row : Row). remove row && stays row) beside ≡ false
   removes-none e = any-none (λ (row : Row). remove row && stays row) beside (λ row m. rw (any-no remove beside e row m))
@@ -326,33 +322,33 @@ module _ (table : Table) (above below : List Row) (u : Operation) (each : EachRo
       (λ p. let e = on-eq o v u p in subst₂ (StepKeeps table above below u) (e .0) (e .1) (f (e .0)))
       (λ p. kept-elsewhere kind u above below (kindIn (table .header) o) o v p)
 
-  codes : (row : Row) → List·Memᴰ row (above ++ (unsettledRow u ∷ below)) → on (u .object) (u .value) (row .operation) ≡ true → settledOnly kind ≡ false → (eqb (row .operation .code) 1 || (removesStand kind && eqb (row .operation .code) 2)) ≡ true
+  codes : (row : Row) → List·Memᴰ row (above ++ (unsettledRow u ∷ below)) → on (u .object) (u .value) (row .operation) ≡ true → settledOnly kind ≡ false → (eqb (row .operation .code) adds || (removesStand kind && eqb (row .operation .code) removes)) ≡ true
   codes row m p only = stored-codes kind (row .operation) (subst (λ (o : ℕ). storable (kindIn (table .header) o) (row .operation) ≡ true) (on-eq (u .object) (u .value) (row .operation) p .0) (each row m .is-storable)) only
 
-  -- Kinds 3 and 4: no step is at one of their rows, which are settled only.
+  -- "kinds 3 and 4 settled only": no step is at one of their rows.
   pub step-in-settled-only : (o v : ℕ) → settledOnly (kindIn (table .header) o) ≡ true → StepKeeps table above below u o v
   step-in-settled-only o v only = by-value o v (λ e. absurd (false≢true (here .settled-only (rw e only))))
 
-  -- Kinds 5, 7 and 8: every row is an add, and another one stays or this one becomes settled.
+  -- "In 5, 7 and 8 it is dropped if another row of the same object and value exists, else it becomes settled": every row there is an add.
   pub step-in-adds : (o v : ℕ) → settledOnly (kindIn (table .header) o) ≡ false → removesStand (kindIn (table .header) o) ≡ false → StepKeeps table above below u o v
   step-in-adds o v only stand = by-value o v (λ e.
       let stand′ : removesStand kind ≡ false = rw e stand in
       let only′ : settledOnly kind ≡ false = rw e only in
       kept-of-adds kind u above below stand′ only′ (λ row m p. add-by (u .object) (u .value) (row .operation) p (or-nil (eqb (row .operation .code) 1) (rw stand′ at (codes row m p only′)))))
 
-  -- Kinds 6 and 9: what the step drops or settles leaves the answer of adds and removes together.
+  -- "In 6 and 9": what the step drops or settles leaves the answer of adds and removes together.
   pub step-in-standing : (o v : ℕ) → settledOnly (kindIn (table .header) o) ≡ false → removesStand (kindIn (table .header) o) ≡ true → StepKeeps table above below u o v
   unfolding addOf removeOf
   step-in-standing o v only stand = by-value o v (λ e.
       let stand′ : removesStand kind ≡ true = rw e stand in
       kept-of-standing kind u above below stand′ (λ row m p. rw p (rw stand′ at (codes row m p (rw e only)))))
 
-  -- "a settling step changes no answer": a step at any unsettled row, whatever the kind.
+  -- "a step changes no answer": at any unsettled row, whatever the kind.
   pub step-at-keeps : (o v : ℕ) → StepKeeps table above below u o v
   step-at-keeps o v = cases (settledOnly (kindIn (table .header) o)) (step-in-settled-only o v)
       (λ only. cases (removesStand (kindIn (table .header) o)) (step-in-standing o v only) (step-in-adds o v only))
 
--- "a settling step changes no answer in any table that meets the rules"
+-- "a step changes no answer in any table by the rules"
 pub step-keeps-answers : (table : Table) → isTable table ≡ true → (o v : ℕ) →
     isInByRows (kindIn (table .header) o) o v (stepOf (kindIn (table .header)) (low table) (table .rows)) ≡ isInByRows (kindIn (table .header) o) o v (table .rows)
 step-keeps-answers table e o v = step-elim (λ (rows : List Row). isInByRows (kindIn (table .header) o) o v rows ≡ isInByRows (kindIn (table .header) o) o v (table .rows)) (kindIn (table .header)) (low table) [] (table .rows) refl
@@ -360,7 +356,7 @@ step-keeps-answers table e o v = step-elim (λ (rows : List Row). isInByRows (ki
     step-at-keeps table above below u (subst (EachRow table) e′ (facts table e .row-facts)) o v
     ∙ ap (isInByRows (kindIn (table .header) o) o v) (sym e′))
 
--- "a settling step changes no answer": nor does a settling call, whatever its limit.
+-- "a step changes no answer": nor does a settling call, whatever its limit.
 pub settling-keeps-answers : (table : Table) → isTable table ≡ true → (limit o v : ℕ) →
     isInByRows (kindIn (table .header) o) o v (rowsSettled table limit) ≡ isInByRows (kindIn (table .header) o) o v (table .rows)
 unfolding rowsSettled
@@ -369,7 +365,7 @@ settling-keeps-answers table e limit o v =
     (λ above below u _ h. (step-facts table above below u (h .0), step-at-keeps table above below u (h .0) o v ∙ h .1))
     limit (table .rows) (facts table e .row-facts, refl) .1
 
--- "changes no answer": every question, total, flag, list, count and holding, gets the reply that it got before, refusals included.
+-- "a step changes no answer": after a settling call every question, total, flag, list, count and holding, gets the reply that it got before, refusals included.
 pub settling-keeps-replies : (table : Table) → isTable table ≡ true → (limit room : ℕ) (asked : Asked) → ask (withRows table (rowsSettled table limit)) room asked ≡ ask table room asked
 unfolding ask byRows countByRows
 settling-keeps-replies table e limit room asked = replies-alike (table .header) (byRows (withRows table (rowsSettled table limit))) (byRows table) room asked (λ _. record {

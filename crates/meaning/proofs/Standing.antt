@@ -1,16 +1,15 @@
 -- Kinds 6 and 9, at one value v of one object o: rows give the definition's answer.
-use mathlib.Core.Path.{_≡_, refl, sym, _∙_, ap, ap₂, subst, subst₂}
-use mathlib.Core.Bool.{Bool, true, false, not, _&&_, _||_, cond, false≢true}
-use mathlib.Core.Logic.{_⊎_, inl, inr, ⊎-elim, _≢_}
-use mathlib.Core.List.{List, [], _∷_, _++_, List·Memᴰ, List·Memᴰ·head, List·Memᴰ·tail}
+use mathlib.Core.Path.{_≡_, refl, sym, _∙_, ap}
+use mathlib.Core.Bool.{Bool, true, false, not, _&&_, _||_, false≢true}
+use mathlib.Core.Logic.{_⊎_, inl, inr, ⊎-elim}
+use mathlib.Core.List.{List, [], _∷_, List·Memᴰ, List·Memᴰ·head, List·Memᴰ·tail}
 use Prim.Native.Nat.{ℕ}
-use lib.Dec.{eqb}
 use Rattle.meaning.specs.Tests.{any}
 use Rattle.meaning.specs.Operations.{Operation, before}
-use Rattle.meaning.specs.Meaning.{on, addOf, removeOf, clearOf, stands, inByStanding}
+use Rattle.meaning.specs.Meaning.{on, addOf, removeOf, stands, inByStanding}
 use Rattle.meaning.specs.Rows.{Row, untagged, unsettledRow, settledRow}
-use Rattle.meaning.proofs.Tests.{cases, clash, iff, and-left, and-right, and-both, and-fails, and-rest, fails, not-holds, fails-not, or-cases, or-left, or-right, or-left-fails, or-right-fails, any-in, any-out, any-no, any-none, on-cons, Some, both, imp, agree, imp-at, agree-at, all6, at6, Six, any-cong, any-or}
-use Rattle.meaning.proofs.OneValue.{Fresh, below, before-below, before-self, below-before, below-self, add-on, remove-on, touches, on-touches, on-untagged, add-untagged, remove-untagged, gone, Arrived}
+use Rattle.meaning.proofs.Tests.{cases, clash, iff, and-left, and-right, and-both, and-fails, and-rest, fails, not-holds, fails-not, or-cases, or-left, or-right, any-in, any-out, any-no, any-none, on-cons, imp, agree, imp-at, agree-at, at6, Six, any-cong, any-or}
+use Rattle.meaning.proofs.OneValue.{Fresh, before-self, add-on, remove-on, touches, on-touches, on-untagged, add-untagged, remove-untagged, gone, Arrived}
 
 -- what rows and log tell of one value: unsettled adds, unsettled removes, settled adds, settled removes, standing adds, standing removes
 unfoldable pub ok : Six

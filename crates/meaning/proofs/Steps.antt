@@ -1,30 +1,30 @@
 -- A settling step, at one value of one object.
-use mathlib.Core.Path.{_≡_, refl, sym, _∙_, ap, ap₂, subst, subst₂}
-use mathlib.Core.Bool.{Bool, true, false, not, _&&_, _||_, cond, false≢true}
-use mathlib.Core.Logic.{_⊎_, inl, inr, ⊎-elim, _≢_}
-use mathlib.Core.List.{List, [], _∷_, _++_, List·Memᴰ, List·Memᴰ·head, List·Memᴰ·tail}
-use Prim.Native.Nat.{ℕ, zero, suc}
+use mathlib.Core.Path.{_≡_, refl, sym, _∙_, ap, subst₂}
+use mathlib.Core.Bool.{Bool, true, false, not, _&&_, _||_, cond}
+use mathlib.Core.Logic.{inl, inr, ⊎-elim}
+use mathlib.Core.List.{List, [], _∷_, _++_, List·Memᴰ}
+use Prim.Native.Nat.{ℕ}
 use native.Mathlib.Omega.{arith}
-use lib.Dec.{leb, eqb}
-use borrow.Author.Tests.{eqb-true, eqb-false, eq-eqb, ne-eqb}
-use Rattle.meaning.specs.Tests.{any, those}
+use lib.Dec.{eqb}
+use borrow.Author.Tests.{eqb-true, ne-eqb}
+use Rattle.meaning.specs.Tests.{any}
 use Rattle.meaning.specs.Operations.{Operation, removesStand}
 use Rattle.meaning.specs.Meaning.{on, addOf, removeOf}
-use Rattle.meaning.specs.Rows.{Row, untagged, unsettledRow, settledRow}
+use Rattle.meaning.specs.Rows.{Row, unsettledRow, settledRow}
 use Rattle.meaning.specs.Arrival.{sameValue}
 use Rattle.meaning.specs.Settling.{addBeside, removeBeside, becomesSettled, droppedWith, leftBy, stepAt}
-use Rattle.meaning.proofs.Tests.{cases, clash, iff, and-left, and-right, and-both, and-fails, fails, not-holds, fails-not, or-cases, or-left, or-right, any-in, any-out, any-no, any-none, any-cong, any-or, any-and, any-those, any-append, any-mid, mem-mid, mem-out, mem-into}
+use Rattle.meaning.proofs.Tests.{cases, clash, iff, and-right, and-both, and-fails, fails, or-cases, any-in, any-out, any-cong, any-or, any-and, any-those, any-append, any-mid, mem-mid, mem-into}
 use Rattle.meaning.proofs.OneValue.{remove-on, add-on, on-untagged, add-untagged, remove-untagged}
 use Rattle.meaning.proofs.RowLaws.{on-eq, on-self, same-on, step-back, step-others, step-kept, step-settles, dropped-only-standing, dropped-same-value}
-use Rattle.meaning.proofs.Survival as AW
-use Rattle.meaning.proofs.Standing as RW
+use Rattle.meaning.proofs.Survival
+use Rattle.meaning.proofs.Standing
 
 module _ (kc kk o v : ℕ) (w : Operation) (pre post : List Row) where
   swept : (r : Row) → (on o v w ≡ true → removesStand kk ≡ false) → on o v (r .operation) ≡ true → droppedWith kk w (pre ++ post) r ≡ false
   swept r h p = cases (on o v w) (λ q. dropped-only-standing kk w (pre ++ post) r (h q)) (λ q. dropped-same-value o v kk w (pre ++ post) r p q)
 
   -- kinds 5, 7, 8
-  pub add-stepped : (on o v w ≡ true → removesStand kk ≡ false) → AW.Stepped kc o v w (pre ++ (unsettledRow w ∷ post)) (stepAt kk pre w post)
+  pub add-stepped : (on o v w ≡ true → removesStand kk ≡ false) → Survival.Stepped kc o v w (pre ++ (unsettledRow w ∷ post)) (stepAt kk pre w post)
   unfolding becomesSettled sameValue
   add-stepped h = record {
     was = mem-mid pre post (unsettledRow w);
@@ -50,8 +50,8 @@ module _ (kc kk o v : ℕ) (w : Operation) (pre post : List Row) where
       (λ m. any-in q m (s .2))
       (step-kept kk pre post w (s .1) (dropped-same-value o v kk w (pre ++ post) (s .0) (qo (s .0) (s .2)) n)))
 
-  others-fit : (accepted : List Operation) → on o v w ≡ false → RW.Fit o v accepted (pre ++ (unsettledRow w ∷ post)) → RW.Fit o v accepted (stepAt kk pre w post)
-  unfolding RW.Fit
+  others-fit : (accepted : List Operation) → on o v w ≡ false → Standing.Fit o v accepted (pre ++ (unsettledRow w ∷ post)) → Standing.Fit o v accepted (stepAt kk pre w post)
+  unfolding Standing.Fit
   others-fit accepted n f =
       rw (
         others (λ (r : Row). not (r .settled) && addOf o v (r .operation)) (λ r e. add-on o v (r .operation) (and-right (not (r .settled)) (addOf o v (r .operation)) e)) n,
@@ -60,8 +60,8 @@ module _ (kc kk o v : ℕ) (w : Operation) (pre post : List Row) where
         others (λ (r : Row). r .settled && removeOf o v (r .operation)) (λ r e. remove-on o v (r .operation) (and-right (r .settled) (removeOf o v (r .operation)) e)) n,
       ) f
 
-  others-coded : ((r : Row) → List·Memᴰ r (pre ++ (unsettledRow w ∷ post)) → on o v (r .operation) ≡ true → RW.puts o v (r .operation) ≡ true) → (x : Row) → List·Memᴰ x (pre ++ post) → on o v (x .operation) ≡ (addOf o v (x .operation) || removeOf o v (x .operation))
-  others-coded c x m = iff (on o v (x .operation)) (addOf o v (x .operation) || removeOf o v (x .operation)) (c x (mem-into pre post (unsettledRow w) m)) (RW.puts-on o v (x .operation))
+  others-coded : ((r : Row) → List·Memᴰ r (pre ++ (unsettledRow w ∷ post)) → on o v (r .operation) ≡ true → Standing.puts o v (r .operation) ≡ true) → (x : Row) → List·Memᴰ x (pre ++ post) → on o v (x .operation) ≡ (addOf o v (x .operation) || removeOf o v (x .operation))
+  others-coded c x m = iff (on o v (x .operation)) (addOf o v (x .operation) || removeOf o v (x .operation)) (c x (mem-into pre post (unsettledRow w) m)) (Standing.puts-on o v (x .operation))
 
 -- laws of tests
 shuffle : (a c b : Bool) → (a || (c || b)) ≡ (c || (a || b))
@@ -131,54 +131,54 @@ module _ (kk : ℕ) (w : Operation) (pre post : List Row) where
   abbrev S : Bool
   S = removesStand kk && (eqb (w .code) 1 && not (addBeside w O))
 
-  ub-act : (q : Operation → Bool) → RW.ub q (stepAt kk pre w post) ≡ RW.ub q O
+  ub-act : (q : Operation → Bool) → Standing.ub q (stepAt kk pre w post) ≡ Standing.ub q O
   unfolding droppedWith
   ub-act q = any-act (λ (r : Row). not (r .settled) && q (r .operation))
       ∙ rw (and-false, any-cong (λ (x : Row). (not (x .settled) && q (x .operation)) && not (droppedWith kk w O x)) (λ (x : Row). not (x .settled) && q (x .operation)) O (λ x _. loose (x .settled) (q (x .operation)) S (B (x .operation))))
 
-  fb-add : RW.fb A (stepAt kk pre w post) ≡ ((becomesSettled kk w O && A w) || RW.fb A O)
+  fb-add : Standing.fb A (stepAt kk pre w post) ≡ ((becomesSettled kk w O && A w) || Standing.fb A O)
   unfolding droppedWith
   fb-add = any-act (λ (r : Row). r .settled && A (r .operation))
       ∙ rw (add-untagged, any-cong (λ (x : Row). (x .settled && A (x .operation)) && not (droppedWith kk w O x)) (λ (x : Row). x .settled && A (x .operation)) O (λ x _. apart (x .settled) (A (x .operation)) S (B (x .operation)) (add-not-rem (w .object) (w .value) (x .operation))))
 
-  fb-rem : RW.fb B (stepAt kk pre w post) ≡ ((becomesSettled kk w O && B w) || (RW.fb B O && not S))
+  fb-rem : Standing.fb B (stepAt kk pre w post) ≡ ((becomesSettled kk w O && B w) || (Standing.fb B O && not S))
   unfolding droppedWith
   fb-rem = any-act (λ (r : Row). r .settled && B (r .operation))
       ∙ rw (remove-untagged, any-cong (λ (x : Row). (x .settled && B (x .operation)) && not (droppedWith kk w O x)) (λ (x : Row). (x .settled && B (x .operation)) && not S) O (λ x _. inner (x .settled) S (B (x .operation))), any-and (λ (x : Row). x .settled && B (x .operation)) (not S) O)
 
   module _ (wk : removesStand kk ≡ true) (coded : (x : Row) → List·Memᴰ x O → on (w .object) (w .value) (x .operation) ≡ (A (x .operation) || B (x .operation))) where
-    keep-add : eqb (w .code) 1 ≡ true → becomesSettled kk w O ≡ not ((RW.ub A O || RW.fb A O) || (RW.ub B O || RW.fb B O))
+    keep-add : eqb (w .code) 1 ≡ true → becomesSettled kk w O ≡ not ((Standing.ub A O || Standing.fb A O) || (Standing.ub B O || Standing.fb B O))
     unfolding becomesSettled sameValue
-    keep-add c = rw (wk, c, any-cong (λ (x : Row). on (w .object) (w .value) (x .operation)) (λ (x : Row). A (x .operation) || B (x .operation)) O coded, any-or (λ (x : Row). A (x .operation)) (λ (x : Row). B (x .operation)) O, RW.split A O, RW.split B O)
+    keep-add c = rw (wk, c, any-cong (λ (x : Row). on (w .object) (w .value) (x .operation)) (λ (x : Row). A (x .operation) || B (x .operation)) O coded, any-or (λ (x : Row). A (x .operation)) (λ (x : Row). B (x .operation)) O, Standing.split A O, Standing.split B O)
 
-    keep-rem : eqb (w .code) 1 ≡ false → becomesSettled kk w O ≡ ((RW.ub A O || RW.fb A O) && not (RW.ub B O || RW.fb B O))
+    keep-rem : eqb (w .code) 1 ≡ false → becomesSettled kk w O ≡ ((Standing.ub A O || Standing.fb A O) && not (Standing.ub B O || Standing.fb B O))
     unfolding becomesSettled addBeside removeBeside
-    keep-rem c = rw (wk, c, RW.split A O, RW.split B O)
+    keep-rem c = rw (wk, c, Standing.split A O, Standing.split B O)
 
-  own-fit : (kc : ℕ) → removesStand kk ≡ true → RW.puts (w .object) (w .value) w ≡ true → ((x : Row) → List·Memᴰ x O → on (w .object) (w .value) (x .operation) ≡ (A (x .operation) || B (x .operation)))
-      → (accepted : List Operation) → RW.Fit (w .object) (w .value) accepted (pre ++ (unsettledRow w ∷ post)) → RW.Fit (w .object) (w .value) accepted (stepAt kk pre w post)
-  unfolding RW.Fit addBeside
+  own-fit : (kc : ℕ) → removesStand kk ≡ true → Standing.puts (w .object) (w .value) w ≡ true → ((x : Row) → List·Memᴰ x O → on (w .object) (w .value) (x .operation) ≡ (A (x .operation) || B (x .operation)))
+      → (accepted : List Operation) → Standing.Fit (w .object) (w .value) accepted (pre ++ (unsettledRow w ∷ post)) → Standing.Fit (w .object) (w .value) accepted (stepAt kk pre w post)
+  unfolding Standing.Fit addBeside
   own-fit kc wk pw coded accepted f = rw (ub-act A, ub-act B, fb-add, fb-rem) (cases (eqb (w .code) 1)
       (λ c.
       let a : A w ≡ true = add-by (w .object) (w .value) w (on-self w) c in
       let b : B w ≡ false = add-not-rem (w .object) (w .value) w a in
-      rw (keep-add wk coded c, wk, c, a, b, RW.split A O)
-      (RW.ok-add (RW.ub A O) (RW.ub B O) (RW.fb A O) (RW.fb B O) (RW.lb (w .object) (w .value) A accepted) (RW.lb (w .object) (w .value) B accepted) (rw (mid A, mid B, mid′ A, mid′ B, a, b) at f)))
+      rw (keep-add wk coded c, wk, c, a, b, Standing.split A O)
+      (Standing.ok-add (Standing.ub A O) (Standing.ub B O) (Standing.fb A O) (Standing.fb B O) (Standing.lb (w .object) (w .value) A accepted) (Standing.lb (w .object) (w .value) B accepted) (rw (mid A, mid B, mid′ A, mid′ B, a, b) at f)))
       (λ c.
       let a : A w ≡ false = fails (A w) (λ h. clash (eqb (w .code) 1) (add-code (w .object) (w .value) w h) c) in
       let b : B w ≡ true = ⊎-elim (λ h. clash (A w) h a) (λ h. h) (or-cases (A w) (B w) pw) in
       rw (keep-rem wk coded c, wk, c, a, b)
-      (RW.ok-rem (RW.ub A O) (RW.ub B O) (RW.fb A O) (RW.fb B O) (RW.lb (w .object) (w .value) A accepted) (RW.lb (w .object) (w .value) B accepted) (rw (mid A, mid B, mid′ A, mid′ B, a, b) at f))))
+      (Standing.ok-rem (Standing.ub A O) (Standing.ub B O) (Standing.fb A O) (Standing.fb B O) (Standing.lb (w .object) (w .value) A accepted) (Standing.lb (w .object) (w .value) B accepted) (rw (mid A, mid B, mid′ A, mid′ B, a, b) at f))))
     where
-      mid : (q : Operation → Bool) → RW.ub q (pre ++ (unsettledRow w ∷ post)) ≡ (q w || RW.ub q O)
+      mid : (q : Operation → Bool) → Standing.ub q (pre ++ (unsettledRow w ∷ post)) ≡ (q w || Standing.ub q O)
       mid q = any-mid (λ (r : Row). not (r .settled) && q (r .operation)) pre post (unsettledRow w)
 
-      mid′ : (q : Operation → Bool) → RW.fb q (pre ++ (unsettledRow w ∷ post)) ≡ RW.fb q O
+      mid′ : (q : Operation → Bool) → Standing.fb q (pre ++ (unsettledRow w ∷ post)) ≡ Standing.fb q O
       mid′ q = any-mid (λ (r : Row). r .settled && q (r .operation)) pre post (unsettledRow w)
 
 -- kinds 6, 9
 module _ (kc kk o v : ℕ) (w : Operation) (pre post : List Row) where
-  pub rem-stepped : (on o v w ≡ true → removesStand kk ≡ true) → RW.Stepped o v w (pre ++ (unsettledRow w ∷ post)) (stepAt kk pre w post)
+  pub rem-stepped : (on o v w ≡ true → removesStand kk ≡ true) → Standing.Stepped o v w (pre ++ (unsettledRow w ∷ post)) (stepAt kk pre w post)
   unfolding droppedWith
   rem-stepped h = record {
     was = mem-mid pre post (unsettledRow w);
@@ -186,7 +186,7 @@ module _ (kc kk o v : ℕ) (w : Operation) (pre post : List Row) where
     back = λ r m p. step-back kk pre post w m;
     fits = λ accepted c f. cases (on o v w)
         (λ p. let e = on-eq o v w p in
-        subst₂ (λ (a b : ℕ). ((r : Row) → List·Memᴰ r (pre ++ (unsettledRow w ∷ post)) → on a b (r .operation) ≡ true → RW.puts a b (r .operation) ≡ true) → RW.Fit a b accepted (pre ++ (unsettledRow w ∷ post)) → RW.Fit a b accepted (stepAt kk pre w post))
+        subst₂ (λ (a b : ℕ). ((r : Row) → List·Memᴰ r (pre ++ (unsettledRow w ∷ post)) → on a b (r .operation) ≡ true → Standing.puts a b (r .operation) ≡ true) → Standing.Fit a b accepted (pre ++ (unsettledRow w ∷ post)) → Standing.Fit a b accepted (stepAt kk pre w post))
         (e .0) (e .1)
         (λ c f. own-fit kk w pre post kc (h p) (c (unsettledRow w) (mem-mid pre post (unsettledRow w)) (on-self w)) (others-coded kc kk (w .object) (w .value) w pre post c) accepted f)
         c f)

@@ -1,15 +1,15 @@
 -- Kinds 5, 7 and 8, at one value v of one object o: rows give the definition's answer.
-use mathlib.Core.Path.{_≡_, refl, sym, _∙_, ap, ap₂, subst, subst₂}
-use mathlib.Core.Bool.{Bool, true, false, not, _&&_, _||_, cond, false≢true}
-use mathlib.Core.Logic.{_⊎_, inl, inr, ⊎-elim, _≢_}
-use mathlib.Core.List.{List, [], _∷_, _++_, List·Memᴰ, List·Memᴰ·head, List·Memᴰ·tail}
+use mathlib.Core.Path.{_≡_, refl, sym, _∙_, ap}
+use mathlib.Core.Bool.{Bool, true, false, _&&_, false≢true}
+use mathlib.Core.Logic.{_⊎_, inl, inr, ⊎-elim}
+use mathlib.Core.List.{List, [], _∷_, List·Memᴰ, List·Memᴰ·head, List·Memᴰ·tail}
 use Prim.Native.Nat.{ℕ}
 use Rattle.meaning.specs.Tests.{any}
 use Rattle.meaning.specs.Operations.{Operation, before}
 use Rattle.meaning.specs.Meaning.{on, addOf, ends, survives, inBySurvival}
 use Rattle.meaning.specs.Rows.{Row, untagged, unsettledRow, settledRow}
 use Rattle.meaning.specs.Arrival.{concerns}
-use Rattle.meaning.proofs.Tests.{cases, clash, iff, and-left, and-right, and-both, and-fails, and-rest, fails, not-holds, fails-not, or-left, or-right, any-in, any-out, any-no, any-none, on-cons, Some}
+use Rattle.meaning.proofs.Tests.{cases, clash, iff, and-left, and-right, and-both, and-fails, and-rest, fails, not-holds, fails-not, any-in, any-out, any-no, any-none, on-cons}
 use Rattle.meaning.proofs.OneValue.{Fresh, below, before-below, before-self, below-before, below-self, ends-concerns, add-on, on-untagged, add-untagged, gone, Arrived}
 
 module _ (k o v : ℕ) where

@@ -1,7 +1,7 @@
 -- The table rules as facts: what a table that meets them is known to be, and that those facts are all that the rules ask.
-use mathlib.Core.Path.{_≡_, sym, _∙_, ap}
+use mathlib.Core.Path.{_≡_, sym, _∙_, ap, subst}
 use mathlib.Core.Bool.{Bool, true, false, not, _&&_, _||_, false≢true}
-use mathlib.Core.Logic.{⊎-elim}
+use mathlib.Core.Logic.{⊎-elim, _≢_}
 use mathlib.Core.List.{List, [], _∷_, List·Memᴰ}
 use Prim.Native.Nat.{ℕ, zero, suc, _<_, _≤_}
 use native.Mathlib.Omega.{arith}
@@ -9,14 +9,14 @@ use native.Mathlib.Nat.{le-of-suc-le-suc, not-suc-le-zero, zero-add}
 use lib.Dec.{leb, ltb, eqb}
 use lib.IntN.{pos}
 use lib.ListN.{getD, length}
-use borrow.Author.Tests.{ltb-true, leb-true, eqb-true, lt-ltb, le-leb, eq-eqb}
+use borrow.Author.Tests.{ltb-true, leb-true, eqb-true, lt-ltb, le-leb, eq-eqb, ne-eqb}
 use Rattle.meaning.specs.Tests.{every, everyAt, between}
-use Rattle.meaning.specs.Order.{Vector, entryLimit, atMost, same}
+use Rattle.meaning.specs.Order.{Vector, entryLimit, atMost, same, othersOf, lowOf}
 use Rattle.meaning.specs.Operations.{Operation, numberOf, valueAllowed}
 use Rattle.meaning.specs.Rows.{Row, settledRow, inOrder}
-use Rattle.meaning.specs.Table.{Header, Table, kindIn, headerRules, inRange, clockRule, lastRule, lastsRule, totalRule, totalsRule, storable, settledOnly, tagRule, rowRule, oneRowAValue, tableRules, isTable}
+use Rattle.meaning.specs.Table.{Header, Table, kindIn, low, headerRules, inRange, clockRule, lastRule, lastsRule, totalRule, totalsRule, storable, settledOnly, tagRule, rowRule, oneRowAValue, tableRules, isTable}
 use Rattle.meaning.proofs.Tests.{cases, and-left, and-right, and-both, fails-not, not-holds, or-cases, or-left, or-right, every-out, every-in, every-at, at-every, rule-at, between-out}
-use Rattle.meaning.proofs.Vectors.{same-eq, eq-same}
+use Rattle.meaning.proofs.Vectors.{at-most-trans, same-eq, eq-same, low-under, others-mem, others-first}
 use Rattle.meaning.proofs.Ascending.{Sorted, order-sorted, sorted-order}
 
 -- What the rules say of one row: "object declared, code storable in its kind (kinds 3 and 4 settled only ...), value 0 in flags; an
@@ -196,3 +196,27 @@ is-table table f =
     (le-leb (length (table .rows)) (table .header .capacity) (f .within))
     (every-in (rowRule table) (table .rows) (λ row m. row-in table row (f .row-facts row m)))
     (f .one-row)
+
+-- "L[k] at or below D"
+pub last-below : (table : Table) → isTable table ≡ true → (k : ℕ) → k < table .header .size → k ≢ table .header .own → atMost (getD (table .last) k []) (table .clock) ≡ true
+unfolding lastRule
+last-below table is k h d =
+    let vector = getD (table .last) k [] in
+    let long = eqb (length vector) (table .header .size) in
+    let below = atMost vector (table .clock) in
+    let heard = eqb (getD vector k 0) (getD (table .clock) k 0) in
+    let rule : (long && (below && heard)) ≡ true = rw (ne-eqb k (table .header .own) d) at (facts table is .last-rule k h) in
+    and-left below heard (and-right long (below && heard) rule)
+
+-- "Low, entry by entry, is the least of L[k] over the other stations k. With N = 1, Low is D": so what is at or below Low is at or below D.
+pub low-below : (table : Table) → isTable table ≡ true → (vector : Vector) → atMost vector (low table) ≡ true → atMost vector (table .clock) ≡ true
+unfolding low
+low-below table is vector e =
+    let F = facts table is in
+    let own = table .header .own in
+    ⊎-elim
+    (λ none. subst (λ (others : List Vector). atMost vector (lowOf (table .clock) others) ≡ true) none e)
+    (λ other. at-most-trans vector (getD (table .last) (other .0) []) (table .clock)
+    (low-under vector (table .clock) (othersOf own (table .last)) e (others-mem own (other .0) (table .last) (other .2) (other .1)))
+    (last-below table is (other .0) (let l = F .last-length in let h = other .1 in omega arith) (other .2)))
+    (others-first own (table .last))

@@ -1,16 +1,16 @@
 -- Each call keeps the table rules, on any table that meets them, reachable or not.
 use mathlib.Core.Path.{_≡_, refl, sym, _∙_, ap, subst}
 use mathlib.Core.Bool.{Bool, true, false, not, _&&_, _||_, cond, false≢true}
-use mathlib.Core.Logic.{_⊎_, ⊎-elim, _≢_}
+use mathlib.Core.Logic.{⊎-elim, _≢_}
 use mathlib.Core.List.{List, [], _∷_, _++_, List·Memᴰ, List·Memᴰ·head, List·Memᴰ·tail, List·Memᴰ·cases-cons, Memᴰ·append-left, Memᴰ·append-right}
-use Prim.Native.Nat.{ℕ, zero, suc, _+_, _<_, _≤_}
+use Prim.Native.Nat.{ℕ, zero, suc, _+_, _*_, _<_, _≤_}
 use native.Mathlib.Omega.{arith}
 use native.Mathlib.Nat.{le-of-suc-le-suc, not-suc-le-zero}
 use lib.Dec.{leb, ltb, eqb}
 use lib.IntN.{ℤ, pos, negsuc, negℤ, _+ℤ_, natAbs, subℕ}
 use lib.ListN.{getD, set, length, replicate, length-append, length-set, length-replicate, getD-replicate}
 use lib.Seq.{getD-set-same, getD-set-other}
-use borrow.Author.Tests.{ltb-true, leb-true, eqb-true, eqb-false, lt-ltb, le-leb, eq-eqb, ne-eqb}
+use borrow.Author.Tests.{ltb-true, ltb-false, leb-true, eqb-true, eqb-false, not-false, lt-ltb, le-ltb, le-leb, eq-eqb, ne-eqb}
 use Rattle.meaning.specs.Tests.{any, every, those}
 use Rattle.meaning.specs.Order.{Vector, entryLimit, atMost, raised, same}
 use Rattle.meaning.specs.Operations.{Operation, numberOf, isCounter, removesStand, codesOf, codeAllowed, valueAllowed, allowed}
@@ -19,10 +19,10 @@ use Rattle.meaning.specs.Rows.{Row, unsettledRow, settledRow, keyOf, low
 use Rattle.meaning.specs.Arrival.{getsRow, withRow, takenBy, taggedArrival, sameValue, settledArrival, rowsAfter, amountOf, totalsAfter}
 use Rattle.meaning.specs.Settling.{removeBeside, addBeside, becomesSettled, droppedWith, leftBy, stepAt}
 use Rattle.meaning.specs.Table.{Header, Table, kindIn, low, zeros, opened, inRange, lastRule, sumOfEntries, totalBound, isNegative, totalRule, storable, settledOnly, oneRowAValue, isTable}
-use Rattle.meaning.specs.Refusals.{Frame, Local, issuedBy, refusalOfFrame, refusalOfLocal, refusalOfSettling, operationAllowed}
-use Rattle.meaning.specs.Calls.{withRows, afterArrival, outcome, receive, issue, settle, rowsSettled}
+use Rattle.meaning.specs.Refusals.{Frame, Local, issuedBy, refusalOfFrame, refusalOfLocal, refusalOfSettling, operationAllowed, openingRefusals}
+use Rattle.meaning.specs.Calls.{Opening, withRows, afterArrival, outcome, receive, issue, settle, rowsSettled, openTable}
 use Rattle.meaning.specs.History.{Event, receives, issues, settles, Station, afterOutcome, afterSettling, after, afterAll, reached as reachedStation}
-use Rattle.meaning.proofs.Tests.{cases, clash, and-left, and-right, and-both, and-fails, fails, fails-not, not-holds, or-cases, or-right-fails, on-cons, any-in, any-no, any-none, those-out, mem-mid, between-out}
+use Rattle.meaning.proofs.Tests.{cases, clash, and-left, and-right, and-both, and-fails, fails, fails-not, not-holds, or-cases, or-left-fails, or-right-fails, on-cons, any-in, any-no, any-none, those-out, mem-mid, between-out}
 use Rattle.meaning.proofs.Vectors.{at-most-refl, at-most-trans, at-most-at, at-most-raised, raised-at, eq-same}
 use Rattle.meaning.proofs.Ascending.{Asc, Sorted, asc-those, asc-join, asc-left, asc-right, asc-cross, row-trans, row-total, lower-by-rest}
 use Rattle.meaning.proofs.RowLaws.{Tagged, arrival-elim, settled-back, arrival-back, ins-back, on-eq, on-self, same-on, steps-elim}
@@ -588,12 +588,68 @@ opened-is-table header e =
     within-any true c = and-both (leb 0 bound) (not (c && false)) (le-leb 0 bound (omega arith)) (fails-not (c && false) (and-fails c false (λ _. refl)))
     within-any false c = refl
 
+-- "13 ... opening: group size, own station, object count, kind or capacity out of range, or space too small": an opening gives a table exactly
+-- when its header is in range and the space is large enough; it is the table of "all 0 at opening", and meets the rules.
+pub record Opens (space needed : ℕ) (header : Header) : Type 0 where
+  pub fresh-when : inRange header ≡ true → needed ≤ space → openTable space needed header ≡ Opening.fresh (opened header)
+  pub when-fresh : (table : Table) → openTable space needed header ≡ Opening.fresh table → (inRange header ≡ true) × (needed ≤ space)
+  pub is-opened : (table : Table) → openTable space needed header ≡ Opening.fresh table → table ≡ opened header
+  pub meets-rules : (table : Table) → openTable space needed header ≡ Opening.fresh table → isTable table ≡ true
+
+-- "opening 1, 13": each opening does so.
+pub opens : (space needed : ℕ) (header : Header) → Opens space needed header
+unfolding openTable openingRefusals
+opens space needed header = record {
+  fresh-when = λ range wide. rw (range, le-ltb space needed wide);
+  when-fresh = λ table e. let a = if-fresh table e in (a .0, a .1);
+  is-opened = λ table e. if-fresh table e .2;
+  meets-rules = λ table e. let a = if-fresh table e in rw (a .2) (opened-is-table header (a .0));
+}
+  where
+    bad : Bool
+    bad = not (inRange header) || ltb space needed
+
+    answer : Bool → Opening
+    answer b = cond (eqb (cond b 13 0) 0) (Opening.fresh (opened header)) (Opening.refused (cond b 13 0))
+
+    if-fresh : (table : Table) → answer bad ≡ Opening.fresh table → (inRange header ≡ true) × (needed ≤ space) × (table ≡ opened header)
+    if-fresh table e = cases bad
+        (λ q. let f : Opening.refused 13 ≡ Opening.fresh table = subst (λ (b : Bool). answer b ≡ Opening.fresh table) q e in let z : _≡_ {A = ℕ} 0 1 = cc in absurd (omega arith))
+        (λ q. let f : Opening.fresh (opened header) ≡ Opening.fresh table = subst (λ (b : Bool). answer b ≡ Opening.fresh table) q e in
+        let same : table ≡ opened header = cc in
+        (not-false (inRange header) (or-left-fails (not (inRange header)) (ltb space needed) q), ltb-false space needed (or-right-fails (not (inRange header)) (ltb space needed) q), same))
+
+-- a sum of entries of 32 bits
+sum-small : (vector : Vector) → every (λ (entry : ℕ). ltb entry entryLimit) vector ≡ true → sumOfEntries vector ≤ 4294967296 * length vector
+sum-small [] e = omega arith
+sum-small (entry ∷ vector) e =
+    let small = ltb-true entry entryLimit (and-left (ltb entry entryLimit) (every (λ (entry : ℕ). ltb entry entryLimit) vector) e) in
+    let rest = sum-small vector (and-right (ltb entry entryLimit) (every (λ (entry : ℕ). ltb entry entryLimit) vector) e) in
+    omega arith
+
+-- "A total is a signed 64-bit number": in every table by the rules it fits one, on either side of zero.
+pub total-fits : (table : Table) → isTable table ≡ true → (o : ℕ) → o < length (table .header .kinds) → natAbs (getD (table .totals) o (pos 0)) < 9223372036854775808
+unfolding totalRule totalBound
+total-fits table is o d =
+    let F = facts table is in
+    let kind = kindIn (table .header) o in
+    let total = getD (table .totals) o (pos 0) in
+    let within = leb (natAbs total) (totalBound (table .clock)) in
+    let sign = not (eqb kind 1 && isNegative total) in
+    let rule = F .total-rule o d in
+    let size = header-facts (table .header) (F .header-in-range) .size-range .1 in
+    let long = F .clock-length in
+    let sum = sum-small (table .clock) (F .clock-words) in
+    cases (isCounter kind)
+    (λ q. let small = leb-true (natAbs total) (1000000 * sumOfEntries (table .clock)) (and-left within sign (rw q at rule)) in omega arith)
+    (λ q. let none = eqb-true (natAbs total) 0 (rw q at rule) in omega arith)
+
 all-kept : (events : List Event) (station : Station) → isTable (station .table) ≡ true → isTable (afterAll events station .table) ≡ true
 unfolding afterAll
 all-kept [] station is = is
 all-kept (event ∷ events) station is = all-kept events (after event station) (kept event station is)
 
--- "Table rules": every table that calls can reach from an opening meets them.
+-- "Table rules": every table that calls can reach from an opening meets them; an accepted opening gives that its header is in range (`opens`).
 pub reached : (header : Header) (events : List Event) → inRange header ≡ true → isTable (reachedStation header events .table) ≡ true
 unfolding reachedStation
 reached header events e = all-kept events (record { table = opened header; accepted = [] }) (opened-is-table header e)

@@ -10,8 +10,10 @@ use borrow.Author.Tests.{leb-true, le-leb}
 use lib.Dec.{leb}
 use lib.ListN.{getD, length}
 use Rattle.meaning.specs.Tests.{any, every, everyAt, those, allHold, between}
--- Nothing of the histories is used here: the line has them checked before every law, so that a wrong rule is refused at a history first.
+-- Nothing of the tables of lines is used here: these two have them checked before every law, so that a wrong rule or number is refused at a line
+-- of them first.
 use Rattle.meaning.specs.Papers.{papers}
+use Rattle.meaning.specs.Boundaries.{boundaries}
 
 -- a case on a test, with the equation
 pub cases : {C : Type 0} (b : Bool) → (b ≡ true → C) → (b ≡ false → C) → C
@@ -38,6 +40,10 @@ and-right false b e = absurd (false≢true e)
 pub and-both : (a b : Bool) → a ≡ true → b ≡ true → (a && b) ≡ true
 and-both a b p q = rw (p, q)
 
+pub and-true : (a : Bool) → (a && true) ≡ a
+and-true true = refl
+and-true false = refl
+
 pub and-fails : (a b : Bool) → (a ≡ true → b ≡ false) → (a && b) ≡ false
 and-fails true b f = f refl
 and-fails false b f = refl
@@ -56,9 +62,6 @@ or-left b p = rw p
 pub or-right : (a : Bool) {b : Bool} → b ≡ true → (a || b) ≡ true
 or-right true p = refl
 or-right false p = p
-
-pub or-fails : {a b : Bool} → a ≡ false → b ≡ false → (a || b) ≡ false
-or-fails {a} {b} p q = rw (p, q)
 
 pub or-left-fails : (a b : Bool) → (a || b) ≡ false → a ≡ false
 or-left-fails true b e = e
@@ -144,9 +147,6 @@ module _ {A : Type 0} where
 
   pub any-none : (p : A → Bool) (l : List A) → ((x : A) → List·Memᴰ x l → p x ≡ false) → any p l ≡ false
   any-none p l f = fails (any p l) (λ e. let r = any-out p l e in clash (p (r .0)) (r .2) (f (r .0) (r .1)))
-
-  pub any-mono : (p : A → Bool) (l m : List A) → ((x : A) → List·Memᴰ x l → p x ≡ true → List·Memᴰ x m) → any p l ≡ true → any p m ≡ true
-  any-mono p l m f e = let r = any-out p l e in any-in p (f (r .0) (r .1) (r .2)) (r .2)
 
   pub any-append : (p : A → Bool) (l m : List A) → any p (l ++ m) ≡ (any p l || any p m)
   any-append p [] m = refl

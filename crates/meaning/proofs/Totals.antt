@@ -1,19 +1,19 @@
 -- Totals: what an arrival adds, and that a sum over operations of which none comes twice goes by the set of them.
 use mathlib.Core.Path.{_≡_, refl, sym, _∙_, ap, ap₂, subst}
-use mathlib.Core.Bool.{Bool, true, false, not, _&&_, _||_, cond, false≢true}
-use mathlib.Core.Logic.{_⊎_, inl, inr, ⊎-elim, _≢_}
-use mathlib.Core.List.{List, [], _∷_, _++_, List·Memᴰ, List·Memᴰ·head, List·Memᴰ·tail, List·Memᴰ·cases-cons, Memᴰ·cast}
-use Prim.Native.Nat.{ℕ, zero, suc, _+_, _<_, _≤_}
+use mathlib.Core.Bool.{true, _&&_, cond}
+use mathlib.Core.Logic.{_⊎_, inl, inr, ⊎-elim}
+use mathlib.Core.List.{List, [], _∷_, List·Memᴰ, List·Memᴰ·head, List·Memᴰ·tail, List·Memᴰ·cases-cons, Memᴰ·cast}
+use Prim.Native.Nat.{ℕ, _+_, _<_}
 use native.Mathlib.Omega.{arith}
-use lib.IntN.{ℤ, pos, negℤ, _+ℤ_, _-ℤ_, +ℤ-assoc, +ℤ-comm, +ℤ-idr, negℤ-+ℤ, pos-+ℤ-pos}
-use lib.Dec.{leb, ltb, eqb}
+use lib.IntN.{ℤ, pos, negℤ, _+ℤ_, _-ℤ_, +ℤ-assoc, +ℤ-comm, negℤ-+ℤ, pos-+ℤ-pos}
+use lib.Dec.{eqb}
 use lib.ListN.{getD, set, length}
 use lib.Seq.{getD-set-same, getD-set-other}
 use borrow.Author.Tests.{eqb-true, eqb-false, eq-eqb, ne-eqb}
 use Rattle.meaning.specs.Operations.{Operation, isCounter, codesOf, codeAllowed}
 use Rattle.meaning.specs.Meaning.{of, sumOf, totalOf}
 use Rattle.meaning.specs.Arrival.{amountOf, totalsAfter}
-use Rattle.meaning.proofs.Tests.{cases, clash, or-cases}
+use Rattle.meaning.proofs.Tests.{cases, or-cases}
 use Rattle.meaning.proofs.KindGroups.{allowed-code}
 
 module _ {A : Type 0} where
@@ -102,6 +102,9 @@ counter-code P k c h l p q = ⊎-elim
     (λ e. allowed-code P 2 c (subst (λ (j : ℕ). codeAllowed j c ≡ true) (eqb-true k 2 e) l) (p, (q, tt)))
     (or-cases (eqb k 1) (eqb k 2) h)
 
+nothing : (n : ℕ) → 0 + n ≡ n
+nothing n = omega arith
+
 -- what an operation on the counter itself adds to the definition's total is its amount
 pub total-on : (k : ℕ) (u : Operation) (accepted : List Operation) → isCounter k ≡ true → codeAllowed k (u .code) ≡ true → totalOf (u .object) (u ∷ accepted) ≡ totalOf (u .object) accepted +ℤ amountOf u
 unfolding totalOf amountOf of
@@ -110,17 +113,11 @@ total-on k u accepted h l = rw (eq-eqb (u .object) (u .object) refl) (counter-co
     k (u .code) h l
     (ap (λ (z : ℕ). pos (u .value + sumOf (u .object) 1 accepted) -ℤ pos z) (nothing (sumOf (u .object) 2 accepted)) ∙ increase (u .value) (sumOf (u .object) 1 accepted) (sumOf (u .object) 2 accepted))
     (ap (λ (z : ℕ). pos z -ℤ pos (u .value + sumOf (u .object) 2 accepted)) (nothing (sumOf (u .object) 1 accepted)) ∙ decrease (u .value) (sumOf (u .object) 1 accepted) (sumOf (u .object) 2 accepted)))
-  where
-    nothing : (n : ℕ) → 0 + n ≡ n
-    nothing n = omega arith
 
 -- an operation on another object adds nothing
 pub total-off : (o : ℕ) (u : Operation) (accepted : List Operation) → (u .object ≡ o → ⊥) → totalOf o (u ∷ accepted) ≡ totalOf o accepted
 unfolding totalOf of
 total-off o u accepted d = rw (ne-eqb (u .object) o d) (ap₂ (λ (a b : ℕ). pos a -ℤ pos b) (nothing (sumOf o 1 accepted)) (nothing (sumOf o 2 accepted)))
-  where
-    nothing : (n : ℕ) → 0 + n ≡ n
-    nothing n = omega arith
 
 -- the totals of a table after an arrival, at one counter
 pub totals-after : (kindOf : ℕ → ℕ) (u : Operation) (totals : List ℤ) (accepted : List Operation) (o : ℕ) → u .object < length totals → codeAllowed (kindOf (u .object)) (u .code) ≡ true → isCounter (kindOf o) ≡ true →

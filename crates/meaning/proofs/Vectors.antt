@@ -1,16 +1,16 @@
 -- Vectors, for every N.
-use mathlib.Core.Path.{_≡_, refl, sym, _∙_, ap, ap₂, subst}
-use mathlib.Core.Bool.{Bool, true, false, not, _&&_, _||_, cond, false≢true}
+use mathlib.Core.Path.{_≡_, refl, ap₂}
+use mathlib.Core.Bool.{true, false, not, false≢true}
 use mathlib.Core.Logic.{_⊎_, inl, inr, _≢_}
-use mathlib.Core.List.{List, [], _∷_, _++_, List·Memᴰ, List·Memᴰ·head, List·Memᴰ·tail}
-use Prim.Native.Nat.{ℕ, zero, suc, _+_, _≤_, _<_, min}
+use mathlib.Core.List.{List, [], _∷_, List·Memᴰ, List·Memᴰ·head, List·Memᴰ·tail}
+use Prim.Native.Nat.{ℕ, zero, suc, _≤_, _<_, min}
 use native.Mathlib.Omega.{arith}
 use native.Mathlib.Nat.{le-of-suc-le-suc, not-suc-le-zero}
-use borrow.Author.Tests.{leb-true, leb-false, le-leb, lt-leb, eqb-true, eq-eqb}
-use lib.Dec.{leb, eqb, ltb}
+use borrow.Author.Tests.{leb-true, le-leb, eqb-true, eq-eqb}
+use lib.Dec.{leb, eqb}
 use lib.ListN.{getD, set, length}
-use Rattle.meaning.specs.Order.{Vector, atMost, same, beforeByVector, raised, least, leastOf, othersOf, lowOf}
-use Rattle.meaning.proofs.Tests.{cases, clash, and-left, and-right, and-both, fails, not-holds, fails-not}
+use Rattle.meaning.specs.Order.{atMost, same, beforeByVector, raised, least, leastOf, othersOf, lowOf}
+use Rattle.meaning.proofs.Tests.{clash, and-left, and-right, and-both, fails, not-holds, fails-not}
 
 -- both ways between a cons's test and its parts
 down : (x y : ℕ) (u v : List ℕ) → atMost (x ∷ u) (y ∷ v) ≡ true → (x ≤ y) × (atMost u v ≡ true)
@@ -79,19 +79,17 @@ at-most-before u v w p q = before-by u w (at-most-trans u v w p (before-at-most 
 pub before-trans : (u v w : List ℕ) → beforeByVector u v ≡ true → beforeByVector v w ≡ true → beforeByVector u w ≡ true
 before-trans u v w p q = at-most-before u v w (before-at-most u v p) q
 
--- the document's words: at most, and different
-pub before-differ : (u v : List ℕ) → beforeByVector u v ≡ true → u ≢ v
-before-differ u v p e = clash (beforeByVector v v) (rw e at p) (before-irreflexive v)
-
-pub differ-before : (u v : List ℕ) → atMost u v ≡ true → u ≢ v → beforeByVector u v ≡ true
-differ-before u v p d = before-by u v p (fails (atMost v u) (λ q. d (at-most-antisym u v p q)))
-
 -- entry by entry
 pub at-most-at : (u v : List ℕ) → atMost u v ≡ true → (i : ℕ) → getD u i 0 ≤ getD v i 0
 at-most-at [] v p i = omega arith
 at-most-at (x ∷ u) [] p i = absurd (false≢true p)
 at-most-at (x ∷ u) (y ∷ v) p zero = down x y u v p .0
 at-most-at (x ∷ u) (y ∷ v) p (suc i) = at-most-at u v (down x y u v p .1) i
+
+pub at-most-by : (u v : List ℕ) → length u ≤ length v → ((i : ℕ) → getD u i 0 ≤ getD v i 0) → atMost u v ≡ true
+at-most-by [] v h f = refl
+at-most-by (x ∷ u) [] h f = absurd (not-suc-le-zero h)
+at-most-by (x ∷ u) (y ∷ v) h f = up x y u v (f 0) (at-most-by u v (le-of-suc-le-suc h) (λ i. f (suc i)))
 
 -- an entry that is higher: not at or below
 pub higher : (u v : List ℕ) (i : ℕ) → getD v i 0 < getD u i 0 → atMost u v ≡ false
@@ -158,6 +156,13 @@ others-mem zero (suc s) (x ∷ l) d h = in-at l s (le-of-suc-le-suc h)
     in-at (x ∷ l) (suc s) h = List·Memᴰ·tail (in-at l s (le-of-suc-le-suc h))
 others-mem (suc k) zero (x ∷ l) d h = List·Memᴰ·head refl
 others-mem (suc k) (suc s) (x ∷ l) d h = List·Memᴰ·tail (others-mem k s l (omega arith) (le-of-suc-le-suc h))
+
+-- a place that is not skipped, unless there is none
+pub others-first : (k : ℕ) (l : List (List ℕ)) → (othersOf k l ≡ []) ⊎ ((s : ℕ) × (s < length l) × (s ≢ k))
+others-first k [] = inl refl
+others-first zero (x ∷ []) = inl refl
+others-first zero (x ∷ y ∷ l) = inr (1, omega arith, omega arith)
+others-first (suc k) (x ∷ l) = inr (0, omega arith, omega arith)
 
 pub low-i : (u d : List ℕ) (l : List (List ℕ)) → atMost u d ≡ true → ((y : List ℕ) → List·Memᴰ y l → atMost u y ≡ true) → atMost u (lowOf d l) ≡ true
 low-i u d [] p f = p

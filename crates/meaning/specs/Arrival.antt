@@ -1,8 +1,8 @@
 -- Arriving: what an accepted operation changes in totals and rows.
-use mathlib.Core.Bool.{Bool, true, false, not, _&&_, _||_, cond}
-use mathlib.Core.List.{List, [], _∷_}
+use mathlib.Core.Bool.{Bool, not, _&&_, _||_, cond}
+use mathlib.Core.List.{List}
 use Prim.Native.Nat.{ℕ}
-use lib.Dec.{leb, eqb}
+use lib.Dec.{eqb}
 use lib.IntN.{ℤ, pos, negℤ, _+ℤ_}
 use lib.ListN.{getD, set}
 use Rattle.meaning.specs.Tests.{any, those}
@@ -27,6 +27,7 @@ takenBy kind t row = concerns kind (row .operation .object) (row .operation .val
 unfoldable pub getsRow : ℕ → Operation → Bool
 getsRow kind t = not (eqb (t .code) clears) && not (eqb (t .code) removes && (eqb kind enableWinsFlag || eqb kind addWinsSet))
 
+-- "Then the arrival gets an unsettled row, except": the rows with the new one, if it gets one.
 unfoldable pub withRow : Bool → Row → List Row → List Row
 withRow gets new rows = cond gets (insertRow new rows) rows
 
@@ -34,6 +35,7 @@ withRow gets new rows = cond gets (insertRow new rows) rows
 unfoldable pub taggedArrival : ℕ → Operation → List Row → List Row
 taggedArrival kind t rows = withRow (getsRow kind t) (unsettledRow t) (those (λ (row : Row). not (takenBy kind t row)) rows)
 
+-- "rows of the same value": a row of the object and value of t.
 unfoldable pub sameValue : Operation → Row → Bool
 sameValue t row = on (t .object) (t .value) (row .operation)
 
@@ -54,5 +56,6 @@ rowsAfter kind t rows =
 unfoldable pub amountOf : Operation → ℤ
 amountOf t = cond (eqb (t .code) adds) (pos (t .value)) (negℤ (pos (t .value)))
 
+-- "kinds 1 and 2 change the total only": the total of the arrival's object, with its amount.
 unfoldable pub totalsAfter : ℕ → Operation → List ℤ → List ℤ
 totalsAfter kind t totals = cond (isCounter kind) (set totals (t .object) (getD totals (t .object) (pos 0) +ℤ amountOf t)) totals

@@ -1,9 +1,9 @@
 -- The calls over a table record: what each returns, and the table afterwards.
-use mathlib.Core.Bool.{Bool, true, false, cond}
-use mathlib.Core.List.{List, [], _∷_}
+use mathlib.Core.Bool.{cond}
+use mathlib.Core.List.{List}
 use Prim.Native.Nat.{ℕ}
 use lib.Dec.{eqb}
-use lib.ListN.{getD, set, length}
+use lib.ListN.{set, length}
 use Rattle.meaning.specs.Order.{Vector, raised}
 use Rattle.meaning.specs.Operations.{Operation}
 use Rattle.meaning.specs.Rows.{Row}
@@ -34,6 +34,7 @@ pub data Outcome : Type 0 where
   refused : ℕ → Outcome
   accepted : Operation → Table → Outcome
 
+-- "A refusal returns its number": 0 is none.
 unfoldable pub outcome : ℕ → Operation → Table → Outcome
 outcome refusal u after = cond (eqb refusal 0) (accepted u after) (refused refusal)
 
@@ -54,12 +55,15 @@ pub data Settled : Type 0 where
   refused : ℕ → Settled
   settled : ℕ → Table → Settled
 
+-- "takes steps until the limit or until no stable unsettled row is left": the rows that a settling call leaves.
 unfoldable pub rowsSettled : Table → ℕ → List Row
 rowsSettled table limit = settledRows limit (kindIn (table .header)) (low table) (table .rows)
 
+-- "and reports how many steps it took"
 unfoldable pub steps : Table → ℕ → ℕ
 steps table limit = stepsTaken limit (kindIn (table .header)) (low table) (table .rows)
 
+-- "Settling passes 14, 1".
 unfoldable pub settle : Table → ℕ → Settled
 settle table limit =
     let refusal = refusalOfSettling limit in
@@ -71,11 +75,13 @@ pub data Reply : Type 0 where
   tooLong : ℕ → Reply
   answered : Answer → Reply
 
+-- "A refusal returns its number (11 also the count)."
 unfoldable pub replyOf : ℕ → Source → Asked → Reply
 replyOf refusal source asked =
     cond (eqb refusal 0) (answered (answerFrom source asked))
     (cond (eqb refusal 11) (tooLong (length (source .listAt (asked .object)))) (refused refusal))
 
+-- "A question passes 14, 1, 3, 12, 11": put to one who answers, by rows or by the definitions.
 unfoldable pub askOf : Header → Source → ℕ → Asked → Reply
 askOf header source room asked = replyOf (firstOf (questionRefusals header source room asked)) source asked
 
@@ -92,6 +98,7 @@ pub data Opening : Type 0 where
   refused : ℕ → Opening
   fresh : Table → Opening
 
+-- "opening 1, 13": a fresh table, or the number.
 unfoldable pub openTable : ℕ → ℕ → Header → Opening
 openTable space needed header =
     let refusal = firstOf (openingRefusals space needed header) in

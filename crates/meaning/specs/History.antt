@@ -17,14 +17,17 @@ pub record Station : Type 0 where
   pub table : Table
   pub accepted : List Operation
 
+-- "a refusal changes no byte": a station after a frame or a local operation.
 unfoldable pub afterOutcome : Station → Outcome → Station
 afterOutcome station (Outcome.refused number) = station
 afterOutcome station (Outcome.accepted u table) = record { table = table; accepted = u ∷ station .accepted }
 
+-- A settling call accepts no operation: a station after it.
 unfoldable pub afterSettling : Station → Settled → Station
 afterSettling station (Settled.refused number) = station
 afterSettling station (Settled.settled steps table) = record { table = table; accepted = station .accepted }
 
+-- "whatever was accepted, in whatever allowed order, with whatever settling between": a station after one call.
 unfoldable pub after : Event → Station → Station
 after (receives frame) station = afterOutcome station (receive (station .table) frame)
 after (issues local) station = afterOutcome station (issue (station .table) local)
@@ -35,6 +38,6 @@ unfoldable pub afterAll : List Event → Station → Station
 afterAll [] station = station
 afterAll (event ∷ events) station = afterAll events (after event station)
 
--- A station from its opening, after these events.
+-- A station from its opening, after these events; an opening that is accepted gives the opened table (`TableRules.opens`).
 unfoldable pub reached : Header → List Event → Station
 reached header events = afterAll events (record { table = opened header; accepted = [] })

@@ -10,4 +10,6 @@ pub mod Questions
 pub mod Refusals
 pub mod Calls
 pub mod History
+pub mod Computing
 pub mod Papers
+pub mod Boundaries

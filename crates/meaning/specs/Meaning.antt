@@ -1,5 +1,5 @@
 -- The nine kinds of object: what each answers, defined over all the accepted operations.
-use mathlib.Core.Bool.{Bool, true, false, not, _&&_, _||_, cond}
+use mathlib.Core.Bool.{Bool, not, _&&_, _||_, cond}
 use mathlib.Core.List.{List, [], _∷_, map}
 use Prim.Native.Nat.{ℕ, _+_}
 use lib.Dec.{ltb, eqb}
@@ -8,23 +8,28 @@ use lib.ListN.{length}
 use Rattle.meaning.specs.Tests.{any, those}
 use Rattle.meaning.specs.Operations.{Operation, before, adds, removes, clears, growSet, twoPhaseSet, multiValueRegister, removesStand}
 
--- Which operations concern an object o, or a value v of it.
+-- "of the same object"
 unfoldable pub of : ℕ → Operation → Bool
 of o u = eqb (u .object) o
 
+-- "on the same value"
 unfoldable pub on : ℕ → ℕ → Operation → Bool
 on o v u = eqb (u .object) o && eqb (u .value) v
 
+-- "add of v", "write of v", "enable"
 unfoldable pub addOf : ℕ → ℕ → Operation → Bool
 addOf o v u = on o v u && eqb (u .code) adds
 
+-- "remove of v", "disable"
 unfoldable pub removeOf : ℕ → ℕ → Operation → Bool
 removeOf o v u = on o v u && eqb (u .code) removes
 
+-- "clear of that object"
 unfoldable pub clearOf : ℕ → Operation → Bool
 clearOf o u = eqb (u .object) o && eqb (u .code) clears
 
--- Kinds 5, 7 and 8: what, coming later, ends an add of v. Kind 7: "write or clear"; 5: "disable"; 8: "remove of v" or "clear".
+-- Kinds 5, 7 and 8: what, coming later, ends an add of v. Kind 7: "write or clear"; 5: "disable"; 8: "remove of v" or "clear". A flag has no
+-- clears (its codes are 1 and 2), so that clause says nothing in kind 5.
 unfoldable pub ends : ℕ → ℕ → ℕ → Operation → Bool
 ends kind o v t = cond (eqb kind multiValueRegister) (of o t) (removeOf o v t || clearOf o t)
 
@@ -55,7 +60,8 @@ inByStanding o v accepted =
     any (λ (u : Operation). addOf o v u && stands o v accepted u) accepted
     && not (any (λ (u : Operation). removeOf o v u && stands o v accepted u) accepted)
 
--- The value v is in the object o of this kind; a flag is on when its one value, 0, is in.
+-- The value v is in the object o of this kind; a flag is on when its one value, 0, is in. Of a counter this says nothing: no question about a
+-- value fits it.
 unfoldable pub isIn : ℕ → ℕ → ℕ → List Operation → Bool
 isIn kind o v accepted =
     cond (eqb kind growSet) (inGrowSet o v accepted)
@@ -76,6 +82,7 @@ abbrev pub joinedWith : ℕ → List ℕ → List ℕ
 joinedWith v [] = v ∷ []
 joinedWith v (first ∷ rest) = cond (ltb v first) (v ∷ first ∷ rest) (cond (eqb v first) (first ∷ rest) (first ∷ joinedWith v rest))
 
+-- "the different values ascending": of a list of values.
 abbrev pub joined : List ℕ → List ℕ
 joined [] = []
 joined (v ∷ values) = joinedWith v (joined values)
@@ -84,6 +91,7 @@ joined (v ∷ values) = joinedWith v (joined values)
 unfoldable pub valuesNamed : ℕ → List Operation → List ℕ
 valuesNamed o operations = map (λ (u : Operation). u .value) (those (of o) operations)
 
+-- "3 list": "the different values ascending" that are in.
 unfoldable pub listOf : ℕ → ℕ → List Operation → List ℕ
 listOf kind o accepted = joined (those (λ (v : ℕ). isIn kind o v accepted) (valuesNamed o accepted))
 

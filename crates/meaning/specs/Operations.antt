@@ -1,12 +1,13 @@
 -- Operations, kinds and codes.
-use mathlib.Core.Bool.{Bool, true, false, not, _&&_, _||_, cond}
+use mathlib.Core.Bool.{Bool, _&&_, _||_, cond}
 use mathlib.Core.List.{List, [], _∷_}
 use Prim.Native.Nat.{ℕ}
-use lib.Dec.{leb, ltb, eqb}
+use lib.Dec.{ltb, eqb}
 use lib.ListN.{getD}
 use Rattle.meaning.specs.Tests.{any, between}
-use Rattle.meaning.specs.Order.{Vector, atMost, same, beforeByVector, concurrentByVector}
+use Rattle.meaning.specs.Order.{Vector, beforeByVector, concurrentByVector}
 
+-- "object, code, value", and "An operation's tag is its sender and a vector".
 pub record Operation : Type 0 where
   pub object : ℕ
   pub code : ℕ
@@ -22,10 +23,11 @@ numberOf u = getD (u .vector) (u .sender) 0
 unfoldable pub before : Operation → Operation → Bool
 before u t = beforeByVector (u .vector) (t .vector)
 
+-- "Neither before the other, and different: *concurrent*."
 unfoldable pub concurrent : Operation → Operation → Bool
 concurrent u t = concurrentByVector (u .vector) (t .vector)
 
--- The nine kinds.
+-- "The nine kinds of object": "1 grow counter", "2 up-down counter" and so on.
 abbrev pub growCounter : ℕ
 growCounter = 1
 
@@ -63,13 +65,15 @@ removes = 2
 abbrev pub clears : ℕ
 clears = 3
 
--- Kinds 1 and 2; 5 and 6; and 6 and 9, in which an operation may stand.
+-- Kinds 1 and 2: "grow counter", "up-down counter".
 unfoldable pub isCounter : ℕ → Bool
 isCounter kind = eqb kind growCounter || eqb kind upDownCounter
 
+-- Kinds 5 and 6: "enable-wins flag", "disable-wins flag".
 unfoldable pub isFlag : ℕ → Bool
 isFlag kind = eqb kind enableWinsFlag || eqb kind disableWinsFlag
 
+-- "In kinds 6 and 9 an operation *stands* if ...".
 unfoldable pub removesStand : ℕ → Bool
 removesStand kind = eqb kind disableWinsFlag || eqb kind removeWinsSet
 
@@ -89,6 +93,7 @@ codesOf kind = getD (
     ∷ []
     ) kind []
 
+-- 4: "code ... not allowed for the kind".
 unfoldable pub codeAllowed : ℕ → ℕ → Bool
 codeAllowed kind code = any (eqb code) (codesOf kind)
 

@@ -19,6 +19,7 @@ atMost [] t = true
 atMost (entry ∷ u) [] = false
 atMost (entry ∷ u) (other ∷ t) = leb entry other && atMost u t
 
+-- "the vectors differ", or not: the same entries.
 abbrev pub same : Vector → Vector → Bool
 same [] [] = true
 same [] (other ∷ t) = false
@@ -43,6 +44,7 @@ least [] t = []
 least (entry ∷ u) [] = []
 least (entry ∷ u) (other ∷ t) = min entry other ∷ least u t
 
+-- "entry by entry ... the least of" a vector and some more.
 abbrev pub leastOf : Vector → List Vector → Vector
 leastOf u [] = u
 leastOf u (t ∷ rest) = leastOf (least u t) rest

@@ -1,12 +1,11 @@
 -- The five questions, and their answers from rows and from the definitions.
-use mathlib.Core.Bool.{Bool, true, false, not, _&&_, _||_, cond}
-use mathlib.Core.List.{List, [], _∷_}
+use mathlib.Core.Bool.{Bool, not, _||_, cond}
+use mathlib.Core.List.{List}
 use Prim.Native.Nat.{ℕ}
-use lib.Dec.{leb, eqb}
+use lib.Dec.{eqb}
 use lib.IntN.{ℤ, pos}
-use lib.ListN.{getD, length}
-use Rattle.meaning.specs.Tests.{between}
-use Rattle.meaning.specs.Operations.{Operation, isCounter, isFlag, valueLimit}
+use lib.ListN.{getD}
+use Rattle.meaning.specs.Operations.{Operation, isCounter, isFlag}
 use Rattle.meaning.specs.Meaning.{isIn, totalOf, listOf, countOf}
 use Rattle.meaning.specs.Rows.{isInByRows, listByRows, countByRows}
 use Rattle.meaning.specs.Table.{Header, Table, kindIn}
@@ -54,6 +53,7 @@ pub record Source : Type 0 where
   pub listAt : ℕ → List ℕ
   pub countAt : ℕ → ℕ
 
+-- "An answer from rows, in any table": one who answers by a table's totals and rows.
 unfoldable pub byRows : Table → Source
 byRows table = record {
   totalAt = λ o. getD (table .totals) o (pos 0);
@@ -62,6 +62,7 @@ byRows table = record {
   countAt = λ o. countByRows (kindIn (table .header) o) o (table .rows);
 }
 
+-- "Definition over the accepted operations": one who answers by the nine definitions.
 unfoldable pub byDefinition : Header → List Operation → Source
 byDefinition header accepted = record {
   totalAt = λ o. totalOf o accepted;
@@ -70,6 +71,7 @@ byDefinition header accepted = record {
   countAt = λ o. countOf (kindIn header o) o accepted;
 }
 
+-- "1 total, 2 flag, 3 list, 4 count of different values, 5 holds this value": what each question gets; a flag is on when 0 is in.
 unfoldable pub answerFrom : Source → Asked → Answer
 answerFrom source asked =
     let o = asked .object in

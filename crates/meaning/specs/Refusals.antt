@@ -1,5 +1,6 @@
--- The refusal numbers, in the order in which each call tries them.
-use mathlib.Core.Bool.{Bool, true, false, not, _&&_, _||_, cond}
+-- The refusal numbers, in the order in which each call tries them. Tried elsewhere, where there are lines and spaces: 14, before all that is here;
+-- of 1 what is about a line ("wrong length or type", "not lower-case hexadecimal or without its LF"), before what is here; 10, after it; and 15.
+use mathlib.Core.Bool.{Bool, not, _&&_, _||_, cond}
 use mathlib.Core.List.{List, [], _∷_, _++_}
 use Prim.Native.Nat.{ℕ, suc}
 use lib.Dec.{leb, ltb, eqb}
@@ -7,7 +8,6 @@ use lib.ListN.{getD, length}
 use Rattle.meaning.specs.Tests.{every, between}
 use Rattle.meaning.specs.Order.{Vector, entryLimit, atMost, raised}
 use Rattle.meaning.specs.Operations.{Operation, numberOf, allowed, valueLimit}
-use Rattle.meaning.specs.Rows.{Row}
 use Rattle.meaning.specs.Arrival.{rowsAfter}
 use Rattle.meaning.specs.Table.{Header, Table, kindIn, inRange}
 use Rattle.meaning.specs.Questions.{Asked, Source, asksTotal, asksList, asksHolds, fits}
@@ -44,9 +44,11 @@ wellShaped header frame =
     && (eqb (length (frame .operation .vector)) (header .size)
     && every (λ (entry : ℕ). ltb entry entryLimit) (frame .operation .vector))
 
+-- 3: "object not declared".
 unfoldable pub declared : Header → ℕ → Bool
 declared header o = ltb o (length (header .kinds))
 
+-- 4: "code, value or amount not allowed for the kind".
 unfoldable pub operationAllowed : Header → Operation → Bool
 operationAllowed header u = allowed (kindIn header (u .object)) (u .code) (u .value)
 
@@ -54,7 +56,7 @@ operationAllowed header u = allowed (kindIn header (u .object)) (u .code) (u .va
 unfoldable pub inTime : Vector → Operation → Bool
 inTime clock u = atMost (u .vector) (raised clock (u .sender))
 
--- A frame's refusals 1 to 7 ask only the header, D and L.
+-- "A frame passes ... 1 to 7": these ask only the header, D and L.
 unfoldable pub frameRefusals : Header → Vector → List Vector → Frame → List Refusal
 frameRefusals header clock last frame =
     let u = frame .operation in
@@ -72,11 +74,12 @@ unfoldable pub roomFor : Table → Operation → Bool
 roomFor table u =
     leb (length (rowsAfter (kindIn (table .header) (u .object)) u (table .rows))) (table .header .capacity)
 
--- "A frame passes 14, 1 to 7, 8."
+-- "A frame passes 14, 1 to 7, 8": 14 and a line's shape come before this.
 unfoldable pub arrivalRefusals : Table → Frame → List Refusal
 arrivalRefusals table frame =
     frameRefusals (table .header) (table .clock) (table .last) frame ++ ((8 when not (roomFor table (frame .operation))) ∷ [])
 
+-- The number that a frame gets, 0 where it is accepted.
 unfoldable pub refusalOfFrame : Table → Frame → ℕ
 refusalOfFrame table frame = firstOf (arrivalRefusals table frame)
 
@@ -90,7 +93,7 @@ issuedBy table local = record {
   vector = raised (table .clock) (table .header .own);
 }
 
--- "A local operation passes 14, 1, 3, 4, 9, 8, 10"; 9: "own number is 4,294,967,295 already".
+-- "A local operation passes 14, 1, 3, 4, 9, 8, 10": 14 and 1 come before this, 10 after it. 9: "own number is 4,294,967,295 already".
 unfoldable pub localRefusals : Table → Local → List Refusal
 localRefusals table local =
     let u = issuedBy table local in
@@ -100,6 +103,7 @@ localRefusals table local =
     ∷ (8 when not (roomFor table u))
     ∷ []
 
+-- The number that a local operation gets, 0 where it is accepted.
 unfoldable pub refusalOfLocal : Table → Local → ℕ
 refusalOfLocal table local = firstOf (localRefusals table local)
 
@@ -107,9 +111,11 @@ refusalOfLocal table local = firstOf (localRefusals table local)
 abbrev pub greatestLimit : ℕ
 greatestLimit = 65535
 
+-- "Settling passes 14, 1": a limit that two bytes cannot hold is of "wrong length".
 unfoldable pub settlingRefusals : ℕ → List Refusal
 settlingRefusals limit = (1 when not (leb limit greatestLimit)) ∷ []
 
+-- The number that a settling call gets, 0 where it is taken.
 unfoldable pub refusalOfSettling : ℕ → ℕ
 refusalOfSettling limit = firstOf (settlingRefusals limit)
 
@@ -123,7 +129,7 @@ wellAsked asked =
 unfoldable pub listTooLong : Source → ℕ → Asked → Bool
 listTooLong source room asked = eqb (asked .question) asksList && ltb room (length (source .listAt (asked .object)))
 
--- "A question passes 14, 1, 3, 12, 11."
+-- "A question passes 14, 1, 3, 12, 11": 14 and a line's shape come before this.
 unfoldable pub questionRefusals : Header → Source → ℕ → Asked → List Refusal
 questionRefusals header source room asked =
     (1 when not (wellAsked asked))
@@ -132,7 +138,7 @@ questionRefusals header source room asked =
     ∷ (11 when listTooLong source room asked)
     ∷ []
 
--- 13: "group size, own station, object count, kind or capacity out of range, or space too small". How long a table of this header is,
--- the layout says.
+-- "opening 1, 13": 1 is about the line's shape and comes before this. 13: "group size, own station, object count, kind or capacity out of
+-- range, or space too small"; how long a table of this header is, the layout says. "in the station program, a second opening" is that program's.
 unfoldable pub openingRefusals : ℕ → ℕ → Header → List Refusal
 openingRefusals space needed header = (13 when (not (inRange header) || ltb space needed)) ∷ []

@@ -2,11 +2,11 @@
 use mathlib.Core.Bool.{Bool, true, false, not, _&&_, _||_, cond}
 use mathlib.Core.List.{List, [], _∷_, map}
 use Prim.Native.Nat.{ℕ, _+_}
-use lib.Dec.{leb, ltb, eqb}
+use lib.Dec.{ltb, eqb}
 use lib.ListN.{length}
 use Rattle.meaning.specs.Tests.{any, every, those}
 use Rattle.meaning.specs.Operations.{Operation, numberOf, twoPhaseSet, removesStand}
-use Rattle.meaning.specs.Meaning.{of, on, addOf, removeOf, joined, valuesNamed}
+use Rattle.meaning.specs.Meaning.{addOf, removeOf, joined, valuesNamed}
 
 -- "A row is object, value, code, and either its tag (unsettled) or no tag (settled)."
 pub record Row : Type 0 where
@@ -17,9 +17,11 @@ pub record Row : Type 0 where
 abbrev pub untagged : Operation → Operation
 untagged u = record { object = u .object; code = u .code; value = u .value; sender = 0; vector = [] }
 
+-- "its tag (unsettled)"
 abbrev pub unsettledRow : Operation → Row
 unsettledRow u = record { settled = false; operation = u }
 
+-- "no tag (settled)"
 abbrev pub settledRow : Operation → Row
 settledRow u = record { settled = true; operation = untagged u }
 
@@ -46,6 +48,7 @@ lowerKey [] (other ∷ others) = true
 lowerKey (entry ∷ entries) [] = false
 lowerKey (entry ∷ entries) (other ∷ others) = ltb entry other || (eqb entry other && lowerKey entries others)
 
+-- "Rows are kept in ascending order of" these: a row stands before another.
 unfoldable pub lowerRow : Row → Row → Bool
 lowerRow row other = lowerKey (keyOf row) (keyOf other)
 
@@ -59,15 +62,17 @@ abbrev pub insertRow : Row → List Row → List Row
 insertRow new [] = new ∷ []
 insertRow new (row ∷ rows) = cond (lowerRow new row) (new ∷ row ∷ rows) (row ∷ insertRow new rows)
 
--- "An answer from rows, in any table: in (or on) if an add row is there and, in kinds 4, 6 and 9, no remove row of that value."
+-- "in kinds 4, 6 and 9": where remove rows count in an answer.
 unfoldable pub removeRowsCount : ℕ → Bool
 removeRowsCount kind = eqb kind twoPhaseSet || removesStand kind
 
+-- "An answer from rows, in any table: in (or on) if an add row is there and, in kinds 4, 6 and 9, no remove row of that value."
 unfoldable pub isInByRows : ℕ → ℕ → ℕ → List Row → Bool
 isInByRows kind o v rows =
     any (λ (row : Row). addOf o v (row .operation)) rows
     && not (removeRowsCount kind && any (λ (row : Row). removeOf o v (row .operation)) rows)
 
+-- "list": "the different values ascending", from rows.
 unfoldable pub listByRows : ℕ → ℕ → List Row → List ℕ
 listByRows kind o rows =
     joined (those (λ (v : ℕ). isInByRows kind o v rows) (valuesNamed o (map (λ (row : Row). row .operation) rows)))

@@ -1,12 +1,12 @@
 -- Settling: one step, and the settling call with its count.
-use mathlib.Core.Bool.{Bool, true, false, not, _&&_, _||_, cond}
+use mathlib.Core.Bool.{Bool, true, false, not, _&&_, cond}
 use mathlib.Core.List.{List, [], _∷_, _++_}
 use Prim.Native.Nat.{ℕ, zero, suc}
 use lib.Dec.{eqb}
 use Rattle.meaning.specs.Tests.{any, those}
 use Rattle.meaning.specs.Order.{Vector, atMost}
 use Rattle.meaning.specs.Operations.{Operation, adds, removesStand}
-use Rattle.meaning.specs.Meaning.{on, addOf, removeOf}
+use Rattle.meaning.specs.Meaning.{addOf, removeOf}
 use Rattle.meaning.specs.Rows.{Row, settledRow}
 use Rattle.meaning.specs.Arrival.{sameValue}
 
@@ -39,6 +39,7 @@ droppedWith kind u others row =
     (removesStand kind && (eqb (u .code) adds && not (addBeside u others)))
     && (row .settled && removeOf (u .object) (u .value) (row .operation))
 
+-- "is dropped as well": the rows without those that go with the row of u.
 unfoldable pub leftBy : ℕ → Operation → List Row → List Row → List Row
 leftBy kind u others rows = those (λ (row : Row). not (droppedWith kind u others row)) rows
 
@@ -57,6 +58,7 @@ stepFrom kindOf low above (row ∷ below) =
     (stepAt (kindOf (row .operation .object)) above (row .operation) below)
     (stepFrom kindOf low (above ++ (row ∷ [])) below)
 
+-- "One settling step", over all the rows.
 abbrev pub stepOf : (ℕ → ℕ) → Vector → List Row → List Row
 stepOf kindOf low rows = stepFrom kindOf low [] rows
 

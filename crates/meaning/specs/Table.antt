@@ -7,7 +7,7 @@ use lib.IntN.{ℤ, pos, negsuc, natAbs}
 use lib.ListN.{getD, length, replicate}
 use Rattle.meaning.specs.Tests.{any, every, everyAt, allHold, between}
 use Rattle.meaning.specs.Order.{Vector, entryLimit, atMost, same, othersOf, lowOf}
-use Rattle.meaning.specs.Operations.{Operation, numberOf, isCounter, growCounter, growSet, twoPhaseSet, enableWinsFlag, multiValueRegister, addWinsSet, adds, removes, clears, codeAllowed, valueAllowed, greatestAmount}
+use Rattle.meaning.specs.Operations.{Operation, numberOf, isCounter, growCounter, growSet, twoPhaseSet, codeAllowed, valueAllowed, greatestAmount}
 use Rattle.meaning.specs.Rows.{Row, inOrder}
 use Rattle.meaning.specs.Arrival.{getsRow, sameValue}
 use Rattle.meaning.specs.Settling.{stableBy}
@@ -27,12 +27,15 @@ pub record Table : Type 0 where
   pub totals : List ℤ
   pub rows : List Row
 
+-- "kinds fixed at opening": the kind of an object.
 unfoldable pub kindIn : Header → ℕ → ℕ
 kindIn header o = getD (header .kinds) o 0
 
+-- "Low ... is the least of L[k] over the other stations k. With N = 1, Low is D."
 unfoldable pub low : Table → Vector
 low table = lowOf (table .clock) (othersOf (table .header .own) (table .last))
 
+-- "An operation is *stable* when its whole vector is at or below Low, entry by entry."
 unfoldable pub stable : Table → Operation → Bool
 stable table u = stableBy (low table) u
 
@@ -59,9 +62,11 @@ headerRules header =
     ∷ between 1 greatestCapacity (header .capacity)
     ∷ []
 
+-- "header in opening's ranges"
 unfoldable pub inRange : Header → Bool
 inRange header = allHold (headerRules header)
 
+-- "all 0 at opening": a vector of N zeros.
 unfoldable pub zeros : ℕ → Vector
 zeros size = replicate size 0
 
@@ -86,9 +91,11 @@ lastRule table station vector =
     (eqb (length vector) (table .header .size)
     && (atMost vector (table .clock) && eqb (getD vector station 0) (getD (table .clock) station 0)))
 
+-- "for each other station k, L[k]": one vector for each station, by its rule.
 unfoldable pub lastsRule : Table → Bool
 lastsRule table = eqb (length (table .last)) (table .header .size) && everyAt (lastRule table) 0 (table .last)
 
+-- "the sum of D"
 abbrev pub sumOfEntries : Vector → ℕ
 sumOfEntries [] = 0
 sumOfEntries (entry ∷ vector) = entry + sumOfEntries vector
@@ -97,6 +104,7 @@ sumOfEntries (entry ∷ vector) = entry + sumOfEntries vector
 unfoldable pub totalBound : Vector → ℕ
 totalBound clock = greatestAmount * sumOfEntries clock
 
+-- "not negative in kind 1"
 unfoldable pub isNegative : ℤ → Bool
 isNegative (pos amount) = false
 isNegative (negsuc amount) = true
@@ -108,6 +116,7 @@ totalRule table o total =
     (leb (natAbs total) (totalBound (table .clock)) && not (eqb (kindIn (table .header) o) growCounter && isNegative total))
     (eqb (natAbs total) 0)
 
+-- One total for each object, by its rule.
 unfoldable pub totalsRule : Table → Bool
 totalsRule table = eqb (length (table .totals)) (length (table .header .kinds)) && everyAt (totalRule table) 0 (table .totals)
 
@@ -157,5 +166,6 @@ tableRules table =
     ∷ oneRowAValue (kindIn (table .header)) (table .rows)
     ∷ []
 
+-- 14: "the space holds no table by the table rules", or it does.
 unfoldable pub isTable : Table → Bool
 isTable table = allHold (tableRules table)
