@@ -1,0 +1,5 @@
+pub mod Digits
+pub mod Bytes
+pub mod Reading
+pub mod Writing
+pub mod Spelling

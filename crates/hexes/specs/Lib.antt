@@ -1,0 +1,5 @@
+pub mod Choice
+pub mod Numbers
+pub mod Hex
+pub mod Decoding
+pub mod Putting

@@ -1,0 +1,5 @@
+pub mod Known
+pub mod Readers
+pub mod Spelling
+pub mod Taken
+pub mod Named

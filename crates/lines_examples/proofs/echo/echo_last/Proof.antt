@@ -1,0 +1,63 @@
+-- `lines_examples::echo::echo_last` meets its contract.
+use Rattle.saved.proofs.Vectors.{last-vector}
+use native.Mathlib.Omega.{arith}
+use borrow.Author.Needs.{needs}
+use Rattle.lines_examples.proofs.echo.echo_last.Statement.{statement}
+use Rattle.lines_examples.proofs.echo.echo_last.Tie as tie
+
+read-last-requires : tie.Need-read-last-requires
+read-last-requires c κs = search needs
+
+refuse-requires : tie.Need-refuse-requires
+refuse-requires c κs = search needs
+
+same-length : tie.Need-same-length
+same-length c = search needs
+
+returns : tie.Need-returns
+returns c = search needs
+
+refuse-requires-2 : tie.Need-refuse-requires-2
+refuse-requires-2 c κs = search needs
+
+same-length-2 : tie.Need-same-length-2
+same-length-2 c = search needs
+
+returns-2 : tie.Need-returns-2
+returns-2 c = search needs
+
+sub-write-last : tie.Need-sub-write-last
+sub-write-last c = search needs
+
+part-write-last-start : tie.Need-part-write-last-start
+part-write-last-start c = search needs
+
+part-write-last-end : tie.Need-part-write-last-end
+part-write-last-end c = omega (arith, last-vector _ _ _ (c .before .before .before .before .before .before .read-last .ensures))
+
+write-last-requires : tie.Need-write-last-requires
+write-last-requires c κs = search needs
+
+same-length-3 : tie.Need-same-length-3
+same-length-3 c = search needs
+
+returns-3 : tie.Need-returns-3
+returns-3 c = search needs
+
+pub echo-last-spec : {M : Type 1} → statement M
+echo-last-spec =
+    tie.close
+    (tie.spec
+    read-last-requires
+    refuse-requires
+    same-length
+    returns
+    refuse-requires-2
+    same-length-2
+    returns-2
+    sub-write-last
+    part-write-last-start
+    part-write-last-end
+    write-last-requires
+    same-length-3
+    returns-3)

@@ -1,0 +1,181 @@
+// A line's bytes taken apart, and the line printed again.
+use shapes::MOST_STATIONS;
+use shapes::NextByte;
+use writing::Written;
+
+// The refusal number of a wrong shape.
+const WRONG_SHAPE: u32 = 1;
+
+// An opening's count is one byte.
+const MOST_KINDS: usize = 255;
+
+pub fn refuse(out: &mut [u8]) -> Written {
+    printed::write_refusal(out, WRONG_SHAPE)
+}
+
+// The size of the group: the last opening's.
+pub fn stations_after(s: &[u8], before: usize) -> usize {
+    let r = lines::read_opening(s);
+    if r.ok { r.stations as usize } else { before }
+}
+
+// A kind of an opening, as a number.
+fn kind_at(s: &[u8], at: usize) -> u32 {
+    match shapes::byte_at(s, at) {
+        NextByte::Byte(kind, _) => kind as u32,
+        NextByte::NoByte => 0,
+    }
+}
+
+// The kinds of an opening, as numbers.
+fn kinds_of(s: &[u8]) -> [u32; MOST_KINDS] {
+    let mut kinds = [0u32; MOST_KINDS];
+    let mut i = 0;
+    while i < MOST_KINDS {
+        kinds[i] = kind_at(s, lines::KINDS_PLACE + i);
+        i += 1;
+    }
+    kinds
+}
+
+fn echo_opening(s: &[u8], out: &mut [u8]) -> Written {
+    let r = lines::read_opening(s);
+    let count = r.count as usize;
+    if !r.ok {
+        return refuse(out);
+    }
+    if MOST_KINDS < count {
+        return refuse(out);
+    }
+    let kinds = kinds_of(s);
+    printed::write_opening(out, r.stations, r.own, r.capacity, &kinds[0..count])
+}
+
+fn echo_operation(s: &[u8], out: &mut [u8]) -> Written {
+    let r = lines::read_operation(s);
+    let vector = r.vector;
+    let n = r.stations as usize;
+    if !r.ok {
+        return refuse(out);
+    }
+    if MOST_STATIONS < n {
+        return refuse(out);
+    }
+    printed::write_operation(out, r.sender, r.object, r.code, r.value, &vector[0..n])
+}
+
+fn echo_issue(s: &[u8], out: &mut [u8]) -> Written {
+    let r = lines::read_issue(s);
+    if !r.ok {
+        return refuse(out);
+    }
+    let fields = [lines::ISSUE as u32, r.object, r.code, r.value];
+    writing::write_alone(out, &lines::ISSUE_WIDTHS, &fields)
+}
+
+fn echo_settling(s: &[u8], out: &mut [u8]) -> Written {
+    let r = lines::read_settling(s);
+    if !r.ok {
+        return refuse(out);
+    }
+    let fields = [lines::SETTLING as u32, r.limit];
+    writing::write_alone(out, &lines::SETTLING_WIDTHS, &fields)
+}
+
+fn echo_question(s: &[u8], out: &mut [u8]) -> Written {
+    let r = lines::read_question(s);
+    if !r.ok {
+        return refuse(out);
+    }
+    let fields = [lines::QUESTION as u32, r.object, r.question, r.value];
+    writing::write_alone(out, &lines::QUESTION_WIDTHS, &fields)
+}
+
+fn echo_printing(s: &[u8], out: &mut [u8]) -> Written {
+    if !lines::read_printing(s) {
+        return refuse(out);
+    }
+    let fields = [lines::PRINTING as u32];
+    writing::write_alone(out, &lines::ALONE_WIDTHS, &fields)
+}
+
+fn echo_clock(s: &[u8], stations: usize, out: &mut [u8]) -> Written {
+    let r = saved::read_clock(s, stations);
+    let vector = r.vector;
+    if !r.ok {
+        return refuse(out);
+    }
+    if MOST_STATIONS < stations {
+        return refuse(out);
+    }
+    printed::write_clock(out, &vector[0..stations])
+}
+
+fn echo_last(s: &[u8], stations: usize, out: &mut [u8]) -> Written {
+    let r = saved::read_last(s, stations);
+    let vector = r.vector;
+    if !r.ok {
+        return refuse(out);
+    }
+    if MOST_STATIONS < stations {
+        return refuse(out);
+    }
+    printed::write_last(out, r.station, &vector[0..stations])
+}
+
+fn echo_total(s: &[u8], out: &mut [u8]) -> Written {
+    let r = saved::read_total(s);
+    if !r.ok {
+        return refuse(out);
+    }
+    printed::write_total(out, r.object, r.high, r.low)
+}
+
+fn echo_row(s: &[u8], stations: usize, out: &mut [u8]) -> Written {
+    let r = saved::read_row(s, stations);
+    let vector = r.vector;
+    if !r.ok {
+        return refuse(out);
+    }
+    if MOST_STATIONS < stations {
+        return refuse(out);
+    }
+    printed::write_row(
+        out,
+        r.object,
+        r.code,
+        r.settled,
+        r.sender,
+        r.value,
+        &vector[0..stations],
+    )
+}
+
+fn echo_closing(s: &[u8], out: &mut [u8]) -> Written {
+    let r = saved::read_closing(s);
+    if !r.ok {
+        return refuse(out);
+    }
+    printed::write_closing(out, r.rows)
+}
+
+// The line again, or `ff01`.
+pub fn echo(s: &[u8], stations: usize, out: &mut [u8]) -> Written {
+    let NextByte::Byte(kind, _) = shapes::byte_at(s, 0) else {
+        return refuse(out);
+    };
+    match kind {
+        lines::OPENING => echo_opening(s, out),
+        lines::OPERATION => echo_operation(s, out),
+        lines::ISSUE => echo_issue(s, out),
+        lines::SETTLING => echo_settling(s, out),
+        lines::QUESTION => echo_question(s, out),
+        lines::PRINTING => echo_printing(s, out),
+        lines::CLOCK => echo_clock(s, stations, out),
+        lines::LAST_VECTOR => echo_last(s, stations, out),
+        lines::TOTAL => echo_total(s, out),
+        lines::ROW => echo_row(s, stations, out),
+        lines::CLOSING => echo_closing(s, out),
+        _ => refuse(out),
+    }
+}

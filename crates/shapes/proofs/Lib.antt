@@ -1,0 +1,5 @@
+pub mod Places
+pub mod Spelling
+pub mod Counting
+pub mod Filling
+pub mod Taking

@@ -1,0 +1,97 @@
+-- A line taken apart, or refused for its shape: the ways through has_shape and read_fields.
+use Prim.Native.Nat.{ℕ, _+_, _-_, _*_, _≤_, _<_}
+use mathlib.Core.Path.{_≡_, refl, sym, ap, _∙_}
+use mathlib.Core.Bool.{Bool, true, false, _&&_}
+use mathlib.Core.List.{List, [], _∷_}
+use native.Mathlib.Omega.{arith}
+use borrow.Author.Tests.{eq-eqb, eqb-true, le-leb, leb-true, lt-leb, ne-eqb}
+use lib.Dec.{eqb, leb}
+use lib.ListN.{length, drop, replicate, length-append, length-replicate}
+use Rattle.hexes.specs.Choice.{pick}
+use Rattle.hexes.proofs.Digits.{and-left, and-right}
+use Rattle.shapes.specs.Places.{byteAt}
+use Rattle.shapes.specs.Shapes.{lengthOf, narrow, read}
+use Rattle.shapes.specs.Reading.{entries, fieldsRead, hasShape, Head, mostStations, padded, sizeOf, startsWith, unread}
+use Rattle.shapes.specs.declared.Fields.{Fields}
+use Rattle.shapes.specs.declared.NextByte.{NextByte}
+use Rattle.shapes.specs.declared.NextByte.the-variants.{Byte, NoByte}
+use Rattle.shapes.proofs.Places.{byte-given, no-byte-given}
+use Rattle.shapes.proofs.Spelling.{length-of-narrow, length-read}
+
+module _ (s : List ℕ) (kind size : ℕ) where
+  pub shape-length : (length s ≡ size → ⊥) → false ≡ hasShape kind size s
+  unfolding hasShape
+  shape-length h = rw (ne-eqb (length s) size h) refl
+
+  starts : (b next : ℕ) (l : List ℕ) → byteAt l 0 ≡ Byte b next → startsWith kind l ≡ eqb b kind
+  unfolding startsWith byteAt
+  starts b next [] e = absurd (let z : _≡_ {A = ℕ} 0 1 = cc in omega arith)
+  starts b next (x ∷ l) e = let same : b ≡ x = byte-given (x ∷ l) 0 b next e .byte in rw same refl
+
+  pub shape-first : (p : NextByte) (b next : ℕ) → length s ≡ size → p ≡ byteAt s 0 → p ≡ Byte b next → eqb b kind ≡ hasShape kind size s
+  unfolding hasShape
+  shape-first p b next h e f = sym (rw (eq-eqb (length s) size h) (starts b next s (sym e ∙ f)))
+
+  pub shape-empty : (p : NextByte) → length s ≡ size → p ≡ byteAt s 0 → p ≡ NoByte → false ≡ hasShape kind size s
+  unfolding hasShape startsWith
+  shape-empty p h e f = go s (no-byte-given s 0 (sym e ∙ f))
+    where
+      go : (l : List ℕ) → length l ≤ 0 → false ≡ eqb (length l) size && startsWith kind l
+      go [] k = go′ (eqb 0 size)
+        where
+          go′ : (t : Bool) → false ≡ t && false
+          go′ true = refl
+          go′ false = refl
+      go (x ∷ l) k = absurd (omega arith)
+
+pub head-small : (widths : List ℕ) → Head widths → lengthOf widths ≤ 24
+head-small widths H = omega (arith, H .few, length-of-narrow widths (H .small))
+
+module _ (s widths : List ℕ) (kind stations : ℕ) where
+  pub fields-many : (r : Fields) → r ≡ unread → mostStations < stations → r ≡ fieldsRead kind widths stations s
+  unfolding fieldsRead
+  fields-many r none h = rw (lt-leb stations mostStations h) none
+
+  pub fields-other : (r : Fields) → r ≡ unread → (at : ℕ) (ok : Bool) → stations ≤ mostStations → at ≡ lengthOf widths → ok ≡ hasShape kind (at + 4 * stations) s → ok ≡ false → r ≡ fieldsRead kind widths stations s
+  unfolding fieldsRead
+  fields-other r none at ok h e f g = let shut : hasShape kind (sizeOf widths stations) s ≡ false = sym (ap (λ (k : ℕ). hasShape kind (k + 4 * stations) s) e) ∙ sym f ∙ g in rw (le-leb stations mostStations h, shut) none
+
+  pub fields-enough : (at : ℕ) (ok : Bool) → ok ≡ hasShape kind (at + 4 * stations) s → ok ≡ true → at + 4 * stations ≤ length s
+  unfolding hasShape
+  fields-enough at ok f g = omega (arith, eqb-true (length s) (at + 4 * stations) (and-left (eqb (length s) (at + 4 * stations)) (startsWith kind s) (sym f ∙ g)))
+
+  pub fields-there : (at : ℕ) (ok : Bool) (head vector : List ℕ) → stations ≤ mostStations → at ≡ lengthOf widths → ok ≡ hasShape kind (at + 4 * stations) s → ok ≡ true
+      → head ≡ padded 6 (read widths s) → vector ≡ padded 16 (entries stations (drop at s))
+      → _≡_ {A = Fields} (record { ok = true; head = head; vector = vector }) (fieldsRead kind widths stations s)
+  unfolding fieldsRead
+  fields-there at ok head vector h e f g eh ev = let fits : hasShape kind (sizeOf widths stations) s ≡ true = sym (ap (λ (k : ℕ). hasShape kind (k + 4 * stations) s) e) ∙ sym f ∙ g in rw (le-leb stations mostStations h, fits, eh, ev, e) refl
+
+-- widths are those of a head, by a test that computes
+pub is-head : (widths : List ℕ) → leb (length widths) 6 && narrow widths ≡ true → Head widths
+is-head widths h = record { few = leb-true (length widths) 6 (and-left (leb (length widths) 6) (narrow widths) h); small = and-right (leb (length widths) 6) (narrow widths) h }
+
+length-padded : (n : ℕ) (l : List ℕ) → length l ≤ n → length (padded n l) ≡ n
+unfolding padded
+length-padded n l h = length-append l (replicate (n - length l) 0) ∙ rw (length-replicate {A = ℕ} (n - length l) 0) (omega arith)
+
+-- a vector that was read has the length of its array
+pub length-vector : (s widths : List ℕ) (kind stations : ℕ) → length (fieldsRead kind widths stations s .vector) ≡ 16
+unfolding fieldsRead entries
+length-vector s widths kind stations = go (leb stations mostStations) (hasShape kind (sizeOf widths stations) s) refl
+  where
+    whole : Fields
+    whole = record { ok = true; head = padded 6 (read widths s); vector = padded 16 (entries stations (drop (lengthOf widths) s)) }
+
+    go : (a b : Bool) → leb stations mostStations ≡ a → length (pick (a && b) whole unread .vector) ≡ 16
+    go true true e = length-padded 16 (entries stations (drop (lengthOf widths) s)) (rw (length-read (replicate stations 4) (drop (lengthOf widths) s), length-replicate {A = ℕ} stations 4) (leb-true stations mostStations e))
+    go true false e = refl
+    go false b e = refl
+
+-- and the fields of its head that of theirs
+pub length-head : (s widths : List ℕ) (kind stations : ℕ) → length widths ≤ 6 → length (fieldsRead kind widths stations s .head) ≡ 6
+unfolding fieldsRead
+length-head s widths kind stations h = go (leb stations mostStations && hasShape kind (sizeOf widths stations) s)
+  where
+    go : (t : Bool) → length (pick t (record { ok = true; head = padded 6 (read widths s); vector = padded 16 (entries stations (drop (lengthOf widths) s)) }) unread .head) ≡ 6
+    go true = length-padded 6 (read widths s) (rw (length-read widths s) h)
+    go false = refl

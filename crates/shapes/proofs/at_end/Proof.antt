@@ -1,0 +1,12 @@
+-- `shapes::at_end` meets its contract.
+use Rattle.shapes.specs.Places.{atEnd}
+use mathlib.Core.Path.{refl}
+use Rattle.shapes.proofs.at_end.Statement.{statement}
+use Rattle.shapes.proofs.at_end.Tie as tie
+
+returns : tie.Need-returns
+unfolding atEnd
+returns c = refl
+
+pub at-end-spec : {M : Type 1} → statement M
+at-end-spec = tie.close (tie.spec returns)

@@ -1,0 +1,50 @@
+-- `writing::write_fields` meets its contract.
+use Rattle.writing.proofs.Whole.{each-fits, size-fits, double-fits, write-short, write-room, write-end, write-done}
+use borrow.Author.Needs.{needs}
+use Rattle.writing.proofs.write_fields.Statement.{statement}
+use Rattle.writing.proofs.write_fields.Tie as tie
+
+length-of-requires : tie.Need-length-of-requires
+length-of-requires c κs = search needs
+
+mul-size : tie.Need-mul-size
+mul-size c = search each-fits
+
+add-size : tie.Need-add-size
+add-size c = search size-fits
+
+mul-if1 : tie.Need-mul-if1
+mul-if1 c = search double-fits
+
+returns : tie.Need-returns
+returns c = search write-short
+
+put-fields-requires : tie.Need-put-fields-requires
+put-fields-requires c κs = search needs
+
+put-each-requires : tie.Need-put-each-requires
+put-each-requires c κs = search write-room
+
+put-lf-requires : tie.Need-put-lf-requires
+put-lf-requires c κs = search write-end
+
+same-length : tie.Need-same-length
+same-length c = search needs
+
+returns-2 : tie.Need-returns-2
+returns-2 c = search write-done
+
+pub write-fields-spec : {M : Type 1} → statement M
+write-fields-spec =
+    tie.close
+    (tie.spec
+    length-of-requires
+    mul-size
+    add-size
+    mul-if1
+    returns
+    put-fields-requires
+    put-each-requires
+    put-lf-requires
+    same-length
+    returns-2)
