@@ -1,0 +1,197 @@
+-- What the scans read, in the words of the meaning.
+use Prim.Native.Nat.{ℕ, zero, suc, _+_, _-_, _*_, _≤_, _<_}
+use mathlib.Core.Path.{_≡_, refl, sym, ap, _∙_, subst}
+use mathlib.Core.Bool.{Bool, true, false, not, _&&_, cond}
+use mathlib.Core.List.{List, [], _∷_, map}
+use native.Mathlib.Nat.{suc-mul}
+use native.Mathlib.Omega.{arith}
+use borrow.Author.Tests.{eqb-true, eq-eqb, ne-eqb}
+use mir.Val.{Fits}
+use mir.Syntax.{w32, w64}
+use lib.Dec.{eqb}
+use lib.ListN.{length, getD, take, drop, length-drop}
+use lib.Seq.{getD-take, getD-drop, drop-drop}
+use Rattle.meaning.specs.Meaning.{on, addOf}
+use Rattle.meaning.specs.Rows.{Row}
+use Rattle.meaning.specs.Arrival.{sameValue}
+use Rattle.meaning.proofs.Tests.{iff, and-left, and-right}
+use Rattle.layout.specs.Words.{pieces, ofTwoWords}
+use Rattle.layout.specs.Layout.{rowOf}
+use Rattle.scans.specs.Showing.{followed, shows, beforeShown, countShown, sameKey}
+
+-- a word of the row at a place
+word-at : (s : List ℕ) (w at i : ℕ) → i < w → getD (take w (drop at s)) i 0 ≡ getD s (at + i) 0
+word-at s w at i h = getD-take w (drop at s) i 0 h ∙ getD-drop at s i 0
+
+-- two values are the same where their words are
+value-words : (h l h′ l′ : ℕ) → l < 4294967296 → l′ < 4294967296 → eqb (ofTwoWords h l) (ofTwoWords h′ l′) ≡ (eqb h h′ && eqb l l′)
+value-words h l h′ l′ p q = iff (eqb (ofTwoWords h l) (ofTwoWords h′ l′)) (eqb h h′ && eqb l l′)
+    (λ e. let k = eqb-true (ofTwoWords h l) (ofTwoWords h′ l′) e in let a : h ≡ h′ = omega arith in let b : l ≡ l′ = omega arith in rw (eq-eqb h h′ a, eq-eqb l l′ b) refl)
+    (λ e. let a = eqb-true h h′ (and-left (eqb h h′) (eqb l l′) e) in let b = eqb-true l l′ (and-right (eqb h h′) (eqb l l′) e) in eq-eqb (ofTwoWords h l) (ofTwoWords h′ l′) (omega arith))
+
+-- what tells two rows apart
+module _ (s : List ℕ) (at next : ℕ) where
+  pub differ-object : (getD s next 0 ≡ getD s at 0 → ⊥) → true ≡ not (sameKey s at next)
+  unfolding sameKey
+  differ-object h = rw (ne-eqb (getD s next 0) (getD s at 0) h) refl
+
+  module _ (own : getD s next 0 ≡ getD s at 0) where
+    pub differ-high : (getD s (next + 1) 0 ≡ getD s (at + 1) 0 → ⊥) → true ≡ not (sameKey s at next)
+    unfolding sameKey
+    differ-high h = rw (eq-eqb (getD s next 0) (getD s at 0) own, ne-eqb (getD s (next + 1) 0) (getD s (at + 1) 0) h) refl
+
+    pub differ-low : getD s (next + 1) 0 ≡ getD s (at + 1) 0 → not (eqb (getD s (next + 2) 0) (getD s (at + 2) 0)) ≡ not (sameKey s at next)
+    unfolding sameKey
+    differ-low h = rw (eq-eqb (getD s next 0) (getD s at 0) own, eq-eqb (getD s (next + 1) 0) (getD s (at + 1) 0) h) refl
+
+-- with a row behind, both have room
+module _ (s : List ℕ) (w at more : ℕ) (room : at + more * w ≤ length s) (some : 0 < more) (n : more ≡ 1 → ⊥) where
+  two-more : more ≡ suc (suc (more - 2))
+  two-more = omega (arith, n)
+
+  both-rooms : at + (w + (w + (more - 2) * w)) ≤ length s
+  both-rooms = omega (arith, rw two-more at room, suc-mul (suc (more - 2)) w, suc-mul (more - 2) w)
+
+  pub next-room : 7 ≤ w → at + w + 7 ≤ length s
+  next-room wide = omega (arith, both-rooms)
+
+  pub key-fits : length s * 4 < 9223372036854775808 → Fits w64 (at + w)
+  key-fits b = omega (arith, both-rooms)
+
+-- whether a row of words shows, by its words and those of the row behind
+module _ (s : List ℕ) (w at more o : ℕ) (room : at + more * w ≤ length s) (some : 0 < more) (wide : 7 ≤ w) (known : (i : ℕ) → Fits w32 (getD s i 0)) where
+  abbrev here : Row
+  here = rowOf (take w (drop at s))
+
+  abbrev behind : List Row
+  behind = map rowOf (pieces w (more - 1) (drop (at + w) s))
+
+  object-is : here .operation .object ≡ getD s at 0
+  object-is = let e : at + 0 ≡ at = omega arith in word-at s w at 0 (omega arith) ∙ rw e refl
+
+  code-is : here .operation .code ≡ getD s (at + 3) 0
+  code-is = word-at s w at 3 (omega arith)
+
+  pub other-object : (getD s at 0 ≡ o → ⊥) → false ≡ shows o here behind
+  unfolding shows addOf on
+  other-object h = rw (ne-eqb (here .operation .object) o (λ e. h (sym object-is ∙ e))) refl
+
+  pub no-add : (getD s (at + 3) 0 ≡ 1 → ⊥) → false ≡ shows o here behind
+  unfolding shows addOf
+  no-add h = rw (ne-eqb (here .operation .code) 1 (λ e. h (sym code-is ∙ e))) (sym (none (on o (here .operation .value) (here .operation))))
+    where
+      none : (a : Bool) → ((a && false) && not (followed here behind)) ≡ false
+      none true = refl
+      none false = refl
+
+  module _ (own : getD s at 0 ≡ o) (add : getD s (at + 3) 0 ≡ 1) where
+    by-next : shows o here behind ≡ not (followed here behind)
+    unfolding shows addOf on
+    by-next = rw (eq-eqb (here .operation .object) o (object-is ∙ own), eq-eqb (here .operation .value) (here .operation .value) refl, eq-eqb (here .operation .code) 1 (code-is ∙ add)) refl
+
+    pub last-shows : more ≡ 1 → true ≡ shows o here behind
+    last-shows e = sym (by-next ∙ ap (λ (m : ℕ). not (followed here (map rowOf (pieces w (m - 1) (drop (at + w) s))))) e)
+
+    -- with a row behind
+    module _ (n : more ≡ 1 → ⊥) where
+      abbrev next : Row
+      next = rowOf (take w (drop (at + w) s))
+
+      ahead : (m : ℕ) → 0 < m → followed here (map rowOf (pieces w m (drop (at + w) s))) ≡ sameValue (here .operation) next
+      ahead zero h = absurd (omega arith)
+      ahead (suc m) h = refl
+
+      next-object : next .operation .object ≡ getD s (at + w) 0
+      next-object = let e : at + w + 0 ≡ at + w = omega arith in word-at s w (at + w) 0 (omega arith) ∙ rw e refl
+
+      same-is : sameValue (here .operation) next ≡ (eqb (getD s (at + w) 0) o && (eqb (getD s (at + w + 1) 0) (getD s (at + 1) 0) && eqb (getD s (at + w + 2) 0) (getD s (at + 2) 0)))
+      unfolding sameValue on
+      same-is =
+          rw (next-object, object-is, own, word-at s w (at + w) 1 (omega arith), word-at s w (at + w) 2 (omega arith), word-at s w at 1 (omega arith), word-at s w at 2 (omega arith))
+          (ap (λ (b : Bool). eqb (getD s (at + w) 0) o && b) (value-words (getD s (at + w + 1) 0) (getD s (at + w + 2) 0) (getD s (at + 1) 0) (getD s (at + 2) 0) (omega (arith, known (at + w + 2))) (omega (arith, known (at + 2)))))
+
+      decided : shows o here behind ≡ not (eqb (getD s (at + w) 0) o && (eqb (getD s (at + w + 1) 0) (getD s (at + 1) 0) && eqb (getD s (at + w + 2) 0) (getD s (at + 2) 0)))
+      decided = by-next ∙ ap not (ahead (more - 1) (omega arith) ∙ same-is)
+
+      pub by-key : (r : Bool) → r ≡ not (sameKey s at (at + w)) → r ≡ shows o here behind
+      unfolding sameKey
+      by-key r e = e ∙ rw own (sym decided)
+
+-- Passing the rows: so many words and rows lie behind, and what is asked of all is what was found and what is asked of the rest.
+pub record Passing (s : List ℕ) (w count : ℕ) (asked : List Row → ℕ) (at more found : ℕ) : Type 0 where
+  pub size : at + more * w ≡ count * w
+  pub within : found + more ≤ count
+  pub number : asked (map rowOf (pieces w count s)) ≡ found + asked (map rowOf (pieces w more (drop at s)))
+
+pub passing-start : (s : List ℕ) (w count : ℕ) (asked : List Row → ℕ) → Passing s w count asked 0 count 0
+passing-start s w count asked = record { size = omega arith; within = omega arith; number = omega arith }
+
+module _ (s : List ℕ) (w count : ℕ) (asked : List Row → ℕ) (at more found : ℕ) (P : Passing s w count asked at more found) where
+  all-passed : more ≤ 0 → asked [] ≡ 0 → found ≡ asked (map rowOf (pieces w count s))
+  all-passed h none = let z : more ≡ 0 = omega arith in sym (rw z at P .number ∙ ap (λ (k : ℕ). found + k) none ∙ omega arith)
+
+  pub passing-room : count * w ≤ length s → at + more * w ≤ length s
+  passing-room room = omega (arith, P .size)
+
+  module _ (h : 0 < more) where
+    one : more ≡ suc (more - 1)
+    one = omega arith
+
+    next-size : at + w + (more - 1) * w ≡ count * w
+    next-size = omega (arith, rw one at P .size, suc-mul (more - 1) w)
+
+    pub first-room : count * w ≤ length s → 7 ≤ w → at + 7 ≤ length s
+    first-room room wide = omega (arith, next-size)
+
+    pub next-fits : count * w ≤ length s → length s * 4 < 9223372036854775808 → Fits w64 (at + w)
+    next-fits room b = omega (arith, next-size)
+
+    next-passing : (n : ℕ) → n ≤ 1 → asked (map rowOf (pieces w more (drop at s))) ≡ n + asked (map rowOf (pieces w (more - 1) (drop (at + w) s))) → Passing s w count asked (at + w) (more - 1) (found + n)
+    next-passing n l e = record { size = next-size; within = omega (arith, P .within); number = P .number ∙ ap (λ (k : ℕ). found + k) e ∙ omega arith }
+
+-- the first row ahead, shown or not
+module _ (s : List ℕ) (w o at more : ℕ) (h : 0 < more) (r : Bool) (e : r ≡ shows o (rowOf (take w (drop at s))) (map rowOf (pieces w (more - 1) (drop (at + w) s)))) where
+  abbrev rest : List Row
+  rest = map rowOf (pieces w (more - 1) (drop (at + w) s))
+
+  first-ahead : (asked : List Row → ℕ) (m : ℕ) → 0 < m → asked (map rowOf (pieces w m (drop at s))) ≡ asked (rowOf (take w (drop at s)) ∷ map rowOf (pieces w (m - 1) (drop (at + w) s)))
+  first-ahead asked zero k = absurd (omega arith)
+  first-ahead asked (suc m) k = let p : suc m - 1 ≡ m = omega arith in rw (drop-drop w at s) (rw p refl)
+
+  before-ahead : beforeShown o (map rowOf (pieces w more (drop at s))) ≡ cond r 0 (suc (beforeShown o rest))
+  unfolding beforeShown
+  before-ahead = first-ahead (beforeShown o) more h ∙ first r e
+    where
+      first : (b : Bool) → b ≡ shows o (rowOf (take w (drop at s))) rest → beforeShown o (rowOf (take w (drop at s)) ∷ rest) ≡ cond b 0 (suc (beforeShown o rest))
+      first b k = rw (sym k) refl
+
+  count-ahead : countShown o (map rowOf (pieces w more (drop at s))) ≡ cond r (suc (countShown o rest)) (countShown o rest)
+  unfolding countShown
+  count-ahead = first-ahead (countShown o) more h ∙ first r e
+    where
+      first : (b : Bool) → b ≡ shows o (rowOf (take w (drop at s))) rest → countShown o (rowOf (take w (drop at s)) ∷ rest) ≡ cond b (suc (countShown o rest)) (countShown o rest)
+      first true k = rw (sym k) refl
+      first false k = rw (sym k) refl
+
+  module _ (count found : ℕ) (P : Passing s w count (beforeShown o) at more found) where
+    pub passing-found : r ≡ true → found ≡ beforeShown o (map rowOf (pieces w count s))
+    passing-found t = sym (P .number ∙ ap (λ (k : ℕ). found + k) (before-ahead ∙ ap (λ (b : Bool). cond b 0 (suc (beforeShown o rest))) t) ∙ omega arith)
+
+    pub passing-next : r ≡ false → Passing s w count (beforeShown o) (at + w) (more - 1) (found + 1)
+    passing-next t = next-passing s w count (beforeShown o) at more found P h 1 (omega arith) (before-ahead ∙ ap (λ (b : Bool). cond b 0 (suc (beforeShown o rest))) t ∙ omega arith)
+
+  module _ (count found : ℕ) (P : Passing s w count (countShown o) at more found) where
+    pub counting-shown : r ≡ true → Passing s w count (countShown o) (at + w) (more - 1) (found + 1)
+    counting-shown t = next-passing s w count (countShown o) at more found P h 1 (omega arith) (count-ahead ∙ ap (λ (b : Bool). cond b (suc (countShown o rest)) (countShown o rest)) t ∙ omega arith)
+
+    pub counting-other : r ≡ false → Passing s w count (countShown o) (at + w) (more - 1) found
+    counting-other t = let z : found + 0 ≡ found = omega arith in subst (λ (k : ℕ). Passing s w count (countShown o) (at + w) (more - 1) k) z (next-passing s w count (countShown o) at more found P h 0 (omega arith) (count-ahead ∙ ap (λ (b : Bool). cond b (suc (countShown o rest)) (countShown o rest)) t ∙ omega arith))
+
+module _ (s : List ℕ) (w count o at more found : ℕ) (h : more ≤ 0) where
+  pub passing-done : Passing s w count (beforeShown o) at more found → found ≡ beforeShown o (map rowOf (pieces w count s))
+  unfolding beforeShown
+  passing-done P = all-passed s w count (beforeShown o) at more found P h refl
+
+  pub counting-done : Passing s w count (countShown o) at more found → found ≡ countShown o (map rowOf (pieces w count s))
+  unfolding countShown
+  counting-done P = all-passed s w count (countShown o) at more found P h refl
