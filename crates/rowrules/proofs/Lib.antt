@@ -1,0 +1,3 @@
+pub mod Scanning
+pub mod Contents
+pub mod Tagging

@@ -1,0 +1,53 @@
+use mathlib.Core.Logic.{⊎-elim}
+use Prim.Native.Nat.{_-_}
+use lib.ListN.{length}
+use borrow.Author.Tests.{eq-eqb, ne-eqb}
+use Rattle.layout.specs.Words.{allZero}
+use Rattle.rowrules.proofs.Scanning.{isZero, zero-by-word, Scanned, scan-start, word-fails, word-holds, scan-done}
+use native.Mathlib.Omega.{arith}
+use borrow.Author.Needs.{needs}
+use Rattle.rowrules.proofs.all_zero.Statement.{statement}
+use Rattle.rowrules.proofs.all_zero.Tie as tie
+use Rattle.rowrules.proofs.all_zero.Reads as reads
+use Rattle.rowrules.proofs.all_zero.Lts as lts
+
+abbrev Inv-loop : tie.InvT-loop
+Inv-loop words good₀ i₀ good i = Scanned allZero words good i
+
+abbrev μ-loop : tie.MeasureT-loop
+μ-loop words good₀ i₀ good i = length words - i
+
+loop-holds : tie.Need-loop-holds Inv-loop μ-loop
+loop-holds c = search (scan-start allZero)
+
+mul-if1 : tie.Need-mul-if1 Inv-loop μ-loop
+mul-if1 c = search needs
+
+shared-slice-read-if1 : tie.Need-shared-slice-read-if1 Inv-loop μ-loop
+shared-slice-read-if1 c = search needs
+
+add-i : tie.Need-add-i Inv-loop μ-loop
+add-i c = search needs
+
+loop-less : tie.Need-loop-less Inv-loop μ-loop
+loop-less c = search needs
+
+loop-again : tie.Need-loop-again Inv-loop μ-loop
+loop-again c = ⊎-elim (λ w. search (word-fails allZero isZero zero-by-word, ne-eqb)) (λ w. search (word-holds allZero isZero zero-by-word, eq-eqb)) (c .if1 .came)
+
+returns : tie.Need-returns Inv-loop μ-loop
+returns c = search (scan-done allZero isZero zero-by-word)
+
+pub all-zero-spec : {M : Type 1} → statement M
+all-zero-spec =
+    tie.close
+    (tie.spec
+    Inv-loop
+    μ-loop
+    loop-holds
+    mul-if1
+    shared-slice-read-if1
+    add-i
+    loop-less
+    loop-again
+    returns)
