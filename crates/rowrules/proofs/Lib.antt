@@ -1,3 +1,4 @@
 pub mod Scanning
 pub mod Contents
 pub mod Tagging
+pub mod Chaining

@@ -6,9 +6,12 @@ use mathlib.Core.List.{List, [], _∷_}
 use native.Mathlib.Nat.{suc-mul, mul-le-mul-right}
 use native.Mathlib.Numerals.{add-one}
 use native.Mathlib.Omega.{arith}
+use mir.Val.{Fits}
+use mir.Syntax.{w64}
 use lib.Dec.{eqb}
 use lib.ListN.{length, getD, take, drop, drop-of-length-le, length-drop}
 use lib.Seq.{drop-cons, drop-drop, length-take-le}
+use Rattle.meaning.specs.Tests.{every, everyAt}
 use Rattle.layout.specs.Words.{allZero, pieces}
 
 -- a test that holds when a test of one word holds at every place
@@ -43,45 +46,54 @@ module _ (test : List ℕ → Bool) (one : ℕ → Bool) (by : ByWord test one) 
   pub scan-done : Scanned test s good i → length s ≤ i → good ≡ test s
   scan-done S h = sym (and-true good) ∙ ap (λ (b : Bool). good && b) (sym (rw (drop-of-length-le s {i = i} h) (by .at-end))) ∙ S .whole
 
--- a test of pieces at their places that holds when a test of one piece holds at every place
-pub record ByPiece (test : ℕ → List (List ℕ) → Bool) (one : ℕ → List ℕ → Bool) : Type 0 where
-  pub at-end : (k : ℕ) → test k [] ≡ true
-  pub at-piece : (k : ℕ) (x : List ℕ) (l : List (List ℕ)) → test k (x ∷ l) ≡ (one k x && test (suc k) l)
-
--- k pieces of `count` are passed, up to place `at`
-pub record Passed (test : ℕ → List (List ℕ) → Bool) (w count : ℕ) (s : List ℕ) (good : Bool) (k at : ℕ) : Type 0 where
+-- k pieces of `count` are passed, up to place `at`: what was noted and the test of the rest make the test of all, each at its place
+pub record Passed (one : ℕ → List ℕ → Bool) (w count : ℕ) (s : List ℕ) (good : Bool) (k at : ℕ) : Type 0 where
   pub here : at ≡ k * w
   pub within : k ≤ count
   pub room : count * w ≤ length s
-  pub whole : (good && test k (pieces w (count - k) (drop at s))) ≡ test 0 (pieces w count s)
+  pub whole : (good && everyAt one k (pieces w (count - k) (drop at s))) ≡ everyAt one 0 (pieces w count s)
 
-pub pass-start : (test : ℕ → List (List ℕ) → Bool) (w count : ℕ) (s : List ℕ) → count * w ≤ length s → Passed test w count s true 0 0
-pass-start test w count s h = let z : count - 0 ≡ count = omega arith in record { here = omega arith; within = omega arith; room = h; whole = rw z refl }
+pub pass-start : (one : ℕ → List ℕ → Bool) (w count : ℕ) (s : List ℕ) → count * w ≤ length s → Passed one w count s true 0 0
+pass-start one w count s h = let z : count - 0 ≡ count = omega arith in record { here = omega arith; within = omega arith; room = h; whole = rw z refl }
 
-module _ (test : ℕ → List (List ℕ) → Bool) (w count : ℕ) (s : List ℕ) (good : Bool) (k at : ℕ) (P : Passed test w count s good k at) (h : k < count) where
+module _ (one : ℕ → List ℕ → Bool) (w count : ℕ) (s : List ℕ) (good : Bool) (k at : ℕ) (P : Passed one w count s good k at) (h : k < count) where
   pub piece-room : at + w ≤ length s
   piece-room = omega (arith, P .here, P .room, suc-mul k w, mul-le-mul-right w h)
 
-  pub piece-long : length (take (at + w - at) (drop at s)) ≡ w
-  piece-long = let q : at + w - at ≡ w = omega arith in rw q (length-take-le w (drop at s) (simp length-drop (omega (arith, piece-room))))
+  pub end-fits : length s * 4 < 9223372036854775808 → Fits w64 (at + w)
+  end-fits b = omega (arith, piece-room)
 
-  module _ (one : ℕ → List ℕ → Bool) (by : ByPiece test one) where
-    next-piece : (good && (one k (take (at + w - at) (drop at s)) && test (suc k) (pieces w (count - suc k) (drop (at + w) s)))) ≡ test 0 (pieces w count s)
+  pub start-fits : length s * 4 < 9223372036854775808 → Fits w64 (at * 4)
+  start-fits b = omega (arith, piece-room)
+
+  pub piece-long : (n : ℕ) → w ≡ n → length (take (at + w - at) (drop at s)) ≡ n
+  piece-long n e = let q : at + w - at ≡ w = omega arith in rw q (length-take-le w (drop at s) (simp length-drop (omega (arith, piece-room))) ∙ e)
+
+  next-here : at + w ≡ (k + 1) * w
+  next-here = omega (arith, P .here, suc-mul k w)
+
+  module _ (r : Bool) (e : r ≡ one k (take (at + w - at) (drop at s))) where
+    next-piece : (good && (r && everyAt one (suc k) (pieces w (count - suc k) (drop (at + w) s)))) ≡ everyAt one 0 (pieces w count s)
     next-piece =
         let more : count - k ≡ suc (count - suc k) = omega arith in
         let q : at + w - at ≡ w = omega arith in
-        rw (q, ← drop-drop w at s) (ap (λ (b : Bool). good && b) (sym (by .at-piece k (take w (drop at s)) (pieces w (count - suc k) (drop w (drop at s))))) ∙ (rw more at (P .whole)))
+        rw (e, q, ← drop-drop w at s) (rw more at (P .whole))
 
-    next-here : at + w ≡ (k + 1) * w
-    next-here = omega (arith, P .here, suc-mul k w)
+    pub piece-fails : (noted : Bool) → noted ≡ false → r ≡ false → Passed one w count s noted (k + 1) (at + w)
+    piece-fails noted n f = rw n (record { here = next-here; within = omega arith; room = P .room; whole = sym (and-false good) ∙ (rw f at next-piece) })
 
-    pub piece-fails : (noted : Bool) → noted ≡ false → one k (take (at + w - at) (drop at s)) ≡ false → Passed test w count s noted (k + 1) (at + w)
-    piece-fails noted e f = rw e (record { here = next-here; within = omega arith; room = P .room; whole = sym (and-false good) ∙ (rw f at next-piece) })
+    pub piece-holds : (noted : Bool) → noted ≡ good → r ≡ true → Passed one w count s noted (k + 1) (at + w)
+    piece-holds noted n f = rw n (record { here = next-here; within = omega arith; room = P .room; whole = rw (add-one k) (rw f at next-piece) })
 
-    pub piece-holds : (noted : Bool) → noted ≡ good → one k (take (at + w - at) (drop at s)) ≡ true → Passed test w count s noted (k + 1) (at + w)
-    piece-holds noted e f = rw e (record { here = next-here; within = omega arith; room = P .room; whole = rw (add-one k) (rw f at next-piece) })
-
-pub pass-done : (test : ℕ → List (List ℕ) → Bool) (one : ℕ → List ℕ → Bool) → ByPiece test one → (w count : ℕ) (s : List ℕ) (good : Bool) (k at : ℕ) → Passed test w count s good k at → count ≤ k → good ≡ test 0 (pieces w count s)
-pass-done test one by w count s good k at P h =
+pub pass-done : (one : ℕ → List ℕ → Bool) (w count : ℕ) (s : List ℕ) (good : Bool) (k at : ℕ) → Passed one w count s good k at → count ≤ k → good ≡ everyAt one 0 (pieces w count s)
+pass-done one w count s good k at P h =
     let none : count - k ≡ 0 = omega arith in
-    sym (and-true good) ∙ ap (λ (b : Bool). good && b) (sym (by .at-end k)) ∙ (rw none at (P .whole))
+    sym (and-true good) ∙ (rw none at (P .whole))
+
+-- a test that does not ask for the place
+abbrev pub anywhere : (List ℕ → Bool) → ℕ → List ℕ → Bool
+anywhere one k = one
+
+pub every-anywhere : (one : List ℕ → Bool) (k : ℕ) (l : List (List ℕ)) → everyAt (anywhere one) k l ≡ every one l
+every-anywhere one k [] = refl
+every-anywhere one k (x ∷ l) = ap (λ (b : Bool). one x && b) (every-anywhere one (suc k) l)

@@ -161,3 +161,67 @@ fn row_ok(row: &[u32], kinds: &[u32], clock: &[u32]) -> bool
     }
     false
 }
+
+// Whether every row keeps the rules that ask nothing of other rows, with a fault noted as in all_zero.
+fn each_ok(rows: &[u32], width: usize, count: usize, kinds: &[u32], clock: &[u32]) -> bool
+    requires { ⌜ (count * width ≤ length (now rows)) × (width ≡ rowWidth (length (now clock))) ⌝ }
+    ensures { λ r. ⌜ r ≡ every (rowKept (now (kinds .entry)) (now (clock .entry))) (pieces width count (now (rows .entry))) ⌝ }
+{
+    let mut good = true;
+    let mut k = 0;
+    let mut at = 0;
+    while k < count {
+        let end = at + width;
+        if !row_ok(&rows[at..end], kinds, clock) {
+            good = false;
+        }
+        k += 1;
+        at = end;
+    }
+    good
+}
+
+// Whether a row may come next after another, by the first seven words of each.
+fn may_follow(before: &[u32], row: &[u32], kinds: &[u32]) -> bool
+    requires { ⌜ (length (now before) ≡ keyWords) × (length (now row) ≡ keyWords) ⌝ }
+    ensures { λ r. ⌜ r ≡ follows (now (kinds .entry)) (now (before .entry)) (now (row .entry)) ⌝ }
+{
+    if kind_of(kinds, row[OBJECT_AT]) == TWO_PHASE_SET {
+        if tags::same(&before[OBJECT_AT..CODE_AT], &row[OBJECT_AT..CODE_AT]) {
+            return false;
+        }
+    }
+    placing::lower(before, row)
+}
+
+// Whether each row may come next after the one before it.
+fn in_order(rows: &[u32], width: usize, count: usize, kinds: &[u32]) -> bool
+    requires { ⌜ (count * width ≤ length (now rows)) × (keyWords ≤ width) ⌝ }
+    ensures { λ r. ⌜ r ≡ chained (follows (now (kinds .entry))) (pieces width count (now (rows .entry))) ⌝ }
+{
+    let mut good = true;
+    let mut at = 0;
+    let mut more = count;
+    while 1 < more {
+        let end = at + VECTOR_AT;
+        let next = at + width;
+        let after = next + VECTOR_AT;
+        if !may_follow(&rows[at..end], &rows[next..after], kinds) {
+            good = false;
+        }
+        more -= 1;
+        at = next;
+    }
+    good
+}
+
+// Whether the rows keep all the rules of rows.
+pub fn rows_ok(rows: &[u32], width: usize, count: usize, kinds: &[u32], clock: &[u32]) -> bool
+    requires { ⌜ (count * width ≤ length (now rows)) × (width ≡ rowWidth (length (now clock))) ⌝ }
+    ensures { λ r. ⌜ r ≡ rowsKept (now (kinds .entry)) (now (clock .entry)) (pieces width count (now (rows .entry))) ⌝ }
+{
+    if each_ok(rows, width, count, kinds, clock) {
+        return in_order(rows, width, count, kinds);
+    }
+    false
+}
