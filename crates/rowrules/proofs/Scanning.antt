@@ -6,6 +6,7 @@ use mathlib.Core.List.{List, [], _∷_}
 use native.Mathlib.Nat.{suc-mul, mul-le-mul-right}
 use native.Mathlib.Numerals.{add-one}
 use native.Mathlib.Omega.{arith}
+use borrow.Author.Tests.{eq-eqb, ne-eqb}
 use mir.Val.{Fits}
 use mir.Syntax.{w64}
 use lib.Dec.{eqb}
@@ -14,37 +15,45 @@ use lib.Seq.{drop-cons, drop-drop, length-take-le}
 use Rattle.meaning.specs.Tests.{every, everyAt}
 use Rattle.layout.specs.Words.{allZero, pieces}
 
--- a test that holds when a test of one word holds at every place
-pub record ByWord (test : List ℕ → Bool) (one : ℕ → Bool) : Type 0 where
-  pub at-end : test [] ≡ true
-  pub at-word : (x : ℕ) (l : List ℕ) → test (x ∷ l) ≡ (one x && test l)
+-- i words are passed: what was noted and the test of the rest make the test of all
+pub record Scanned (one : ℕ → Bool) (s : List ℕ) (good : Bool) (i : ℕ) : Type 0 where
+  pub within : i ≤ length s
+  pub whole : (good && every one (drop i s)) ≡ every one s
 
+pub scan-start : (one : ℕ → Bool) (s : List ℕ) → Scanned one s true 0
+scan-start one s = record { within = omega arith; whole = refl }
+
+module _ (one : ℕ → Bool) (s : List ℕ) (good : Bool) (i : ℕ) (S : Scanned one s good i) where
+  module _ (h : i < length s) (r : Bool) (e : r ≡ one (getD s i 0)) where
+    next-word : (good && (r && every one (drop (suc i) s))) ≡ every one s
+    next-word = rw e (rw (drop-cons s i 0 h) at (S .whole))
+
+    pub word-fails : (noted : Bool) → noted ≡ false → r ≡ false → Scanned one s noted (i + 1)
+    word-fails noted n f = rw n (record { within = omega arith; whole = sym (and-false good) ∙ (rw f at next-word) })
+
+    pub word-holds : (noted : Bool) → noted ≡ good → r ≡ true → Scanned one s noted (i + 1)
+    word-holds noted n f = rw n (record { within = omega arith; whole = rw (add-one i) (rw f at next-word) })
+
+  pub scan-done : length s ≤ i → good ≡ every one s
+  scan-done h = sym (and-true good) ∙ (rw (drop-of-length-le s {i = i} h) at (S .whole))
+
+-- all words 0
 abbrev pub isZero : ℕ → Bool
 isZero word = eqb word 0
 
-pub zero-by-word : ByWord allZero isZero
-zero-by-word = record { at-end = refl; at-word = λ x l. refl }
+every-zero : (s : List ℕ) → every isZero s ≡ allZero s
+every-zero [] = refl
+every-zero (x ∷ s) = ap (λ (b : Bool). isZero x && b) (every-zero s)
 
--- i words are passed: what was noted and the test of the rest make the test of the whole
-pub record Scanned (test : List ℕ → Bool) (s : List ℕ) (good : Bool) (i : ℕ) : Type 0 where
-  pub within : i ≤ length s
-  pub whole : (good && test (drop i s)) ≡ test s
+module _ (s : List ℕ) (good : Bool) (i : ℕ) (S : Scanned isZero s good i) where
+  pub zero-fails : i < length s → (noted : Bool) → noted ≡ false → (getD s i 0 ≡ 0 → ⊥) → Scanned isZero s noted (i + 1)
+  zero-fails h noted n f = word-fails isZero s good i S h (isZero (getD s i 0)) refl noted n (ne-eqb (getD s i 0) 0 f)
 
-pub scan-start : (test : List ℕ → Bool) (s : List ℕ) → Scanned test s true 0
-scan-start test s = record { within = omega arith; whole = refl }
+  pub zero-holds : i < length s → (noted : Bool) → noted ≡ good → getD s i 0 ≡ 0 → Scanned isZero s noted (i + 1)
+  zero-holds h noted n f = word-holds isZero s good i S h (isZero (getD s i 0)) refl noted n (eq-eqb (getD s i 0) 0 f)
 
-module _ (test : List ℕ → Bool) (one : ℕ → Bool) (by : ByWord test one) (s : List ℕ) (good : Bool) (i : ℕ) where
-  next-word : Scanned test s good i → i < length s → (good && (one (getD s i 0) && test (drop (suc i) s))) ≡ test s
-  next-word S h = ap (λ (b : Bool). good && b) (sym (rw (drop-cons s i 0 h) (by .at-word _ _))) ∙ S .whole
-
-  pub word-fails : Scanned test s good i → i < length s → (noted : Bool) → noted ≡ false → one (getD s i 0) ≡ false → Scanned test s noted (i + 1)
-  word-fails S h noted e f = rw e (record { within = omega arith; whole = sym (and-false good) ∙ (rw f at (next-word S h)) })
-
-  pub word-holds : Scanned test s good i → i < length s → (noted : Bool) → noted ≡ good → one (getD s i 0) ≡ true → Scanned test s noted (i + 1)
-  word-holds S h noted e f = rw e (record { within = omega arith; whole = rw (add-one i) (rw f at (next-word S h)) })
-
-  pub scan-done : Scanned test s good i → length s ≤ i → good ≡ test s
-  scan-done S h = sym (and-true good) ∙ ap (λ (b : Bool). good && b) (sym (rw (drop-of-length-le s {i = i} h) (by .at-end))) ∙ S .whole
+  pub zero-done : length s ≤ i → good ≡ allZero s
+  zero-done h = scan-done isZero s good i S h ∙ every-zero s
 
 -- k pieces of `count` are passed, up to place `at`: what was noted and the test of the rest make the test of all, each at its place
 pub record Passed (one : ℕ → List ℕ → Bool) (w count : ℕ) (s : List ℕ) (good : Bool) (k at : ℕ) : Type 0 where

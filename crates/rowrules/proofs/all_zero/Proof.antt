@@ -1,9 +1,7 @@
 use mathlib.Core.Logic.{⊎-elim}
 use Prim.Native.Nat.{_-_}
 use lib.ListN.{length}
-use borrow.Author.Tests.{eq-eqb, ne-eqb}
-use Rattle.layout.specs.Words.{allZero}
-use Rattle.rowrules.proofs.Scanning.{isZero, zero-by-word, Scanned, scan-start, word-fails, word-holds, scan-done}
+use Rattle.rowrules.proofs.Scanning.{isZero, Scanned, scan-start, zero-fails, zero-holds, zero-done}
 use native.Mathlib.Omega.{arith}
 use borrow.Author.Needs.{needs}
 use Rattle.rowrules.proofs.all_zero.Statement.{statement}
@@ -12,13 +10,13 @@ use Rattle.rowrules.proofs.all_zero.Reads as reads
 use Rattle.rowrules.proofs.all_zero.Lts as lts
 
 abbrev Inv-loop : tie.InvT-loop
-Inv-loop words good₀ i₀ good i = Scanned allZero words good i
+Inv-loop words good₀ i₀ good i = Scanned isZero words good i
 
 abbrev μ-loop : tie.MeasureT-loop
 μ-loop words good₀ i₀ good i = length words - i
 
 loop-holds : tie.Need-loop-holds Inv-loop μ-loop
-loop-holds c = search (scan-start allZero)
+loop-holds c = search scan-start
 
 mul-if1 : tie.Need-mul-if1 Inv-loop μ-loop
 mul-if1 c = search needs
@@ -33,10 +31,10 @@ loop-less : tie.Need-loop-less Inv-loop μ-loop
 loop-less c = search needs
 
 loop-again : tie.Need-loop-again Inv-loop μ-loop
-loop-again c = ⊎-elim (λ w. search (word-fails allZero isZero zero-by-word, ne-eqb)) (λ w. search (word-holds allZero isZero zero-by-word, eq-eqb)) (c .if1 .came)
+loop-again c = ⊎-elim (λ w. search zero-fails) (λ w. search zero-holds) (c .if1 .came)
 
 returns : tie.Need-returns Inv-loop μ-loop
-returns c = search (scan-done allZero isZero zero-by-word)
+returns c = search zero-done
 
 pub all-zero-spec : {M : Type 1} → statement M
 all-zero-spec =

@@ -1,0 +1,84 @@
+use Rattle.rules.proofs.Totals.{total-fails, total-holds}
+use mathlib.Core.Logic.{⊎-elim}
+use Prim.Native.Nat.{_-_}
+use lib.ListN.{length}
+use borrow.Author.Tests.{not-true, not-false}
+use Rattle.rules.specs.TableTests.{totalKeptAt}
+use Rattle.rowrules.proofs.Scanning.{Passed, pass-start, piece-room, end-fits, start-fits, piece-long, pass-done}
+use native.Mathlib.Omega.{arith}
+use borrow.Author.Needs.{needs}
+use Rattle.rules.proofs.each_total_ok.Statement.{statement}
+use Rattle.rules.proofs.each_total_ok.Tie as tie
+use Rattle.rules.proofs.each_total_ok.Reads as reads
+use Rattle.rules.proofs.each_total_ok.Lts as lts
+use Rattle.rules.proofs.code_of.Reads as code-of-reads
+use Rattle.rules.proofs.total_ok.Reads as total-ok-reads
+
+abbrev Inv-loop : tie.InvT-loop
+Inv-loop kinds totals bound good₀ k₀ at₀ good k at = Passed (totalKeptAt bound kinds) 2 (length kinds) totals good k at
+
+abbrev μ-loop : tie.MeasureT-loop
+μ-loop kinds totals bound good₀ k₀ at₀ good k at = length kinds - k
+
+loop-holds : tie.Need-loop-holds Inv-loop μ-loop
+loop-holds c = search pass-start
+
+add-end : tie.Need-add-end Inv-loop μ-loop
+add-end c = search (end-fits, arith)
+
+mul-total-ok : tie.Need-mul-total-ok Inv-loop μ-loop
+mul-total-ok c = search needs
+
+shared-slice-read-total-ok : tie.Need-shared-slice-read-total-ok Inv-loop μ-loop
+shared-slice-read-total-ok c = search needs
+
+mul-code-of : tie.Need-mul-code-of Inv-loop μ-loop
+mul-code-of c = search (start-fits, arith)
+
+sub-code-of : tie.Need-sub-code-of Inv-loop μ-loop
+sub-code-of c = search needs
+
+part-code-of-start : tie.Need-part-code-of-start Inv-loop μ-loop
+part-code-of-start c = search needs
+
+part-code-of-end : tie.Need-part-code-of-end Inv-loop μ-loop
+part-code-of-end c = search piece-room
+
+code-of-requires : tie.Need-code-of-requires Inv-loop μ-loop
+code-of-requires c κs = search piece-long
+
+total-ok-requires : tie.Need-total-ok-requires Inv-loop μ-loop
+total-ok-requires c κs = search needs
+
+add-k : tie.Need-add-k Inv-loop μ-loop
+add-k c = search needs
+
+loop-less : tie.Need-loop-less Inv-loop μ-loop
+loop-less c = search needs
+
+loop-again : tie.Need-loop-again Inv-loop μ-loop
+loop-again c = ⊎-elim (λ w. search (total-fails, not-true)) (λ w. search (total-holds, not-false)) (c .if1 .came)
+
+returns : tie.Need-returns Inv-loop μ-loop
+returns c = search pass-done
+
+pub each-total-ok-spec : {M : Type 1} → statement M
+each-total-ok-spec =
+    tie.close
+    (tie.spec
+    Inv-loop
+    μ-loop
+    loop-holds
+    add-end
+    mul-total-ok
+    shared-slice-read-total-ok
+    mul-code-of
+    sub-code-of
+    part-code-of-start
+    part-code-of-end
+    code-of-requires
+    total-ok-requires
+    add-k
+    loop-less
+    loop-again
+    returns)

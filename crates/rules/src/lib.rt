@@ -1,0 +1,279 @@
+// The one test that every outside call makes: whether lent words hold a table.
+ghost use mathlib.Core.Path.{_≡_};
+ghost use Prim.Native.Nat.{_+_, _*_, _≤_, _<_};
+ghost use lib.Dec.{leb};
+ghost use lib.ListN.{length, getD};
+ghost use Rattle.meaning.specs.Tests.{between, every, everyAt};
+ghost use Rattle.meaning.specs.Table.{sumOfEntries, totalBound};
+ghost use Rattle.layout.specs.Words.{ofComplement, ofTwoWords, pieces, wordLimit};
+ghost use Rattle.layout.specs.Layout.{capacityIn, rowsAt, sizeIn, spaceFor, totalOfWords};
+ghost use Rattle.rules.specs.TableTests.{headKept, Headed, kindsKept, lastKept, lastsKept, sizesKept, totalKept, totalKeptAt, totalsKept};
+
+const MARK: u32 = 1919904876;
+
+// What the seventh word holds when no load is under way.
+const IDLE: u32 = 0;
+
+const GREATEST_SIZE: u32 = 16;
+
+const GREATEST_CAPACITY: u32 = 512;
+
+const MOST_OBJECTS: u32 = 32;
+
+const GREATEST_KIND: u32 = 9;
+
+const GROW_COUNTER: u32 = 1;
+
+const UP_DOWN_COUNTER: u32 = 2;
+
+const GREATEST_AMOUNT: u64 = 1000000;
+
+const WORD_LIMIT: u64 = 4294967296;
+
+// The first code of a negative total in two's complement, and the last, which is -1.
+const NEGATIVE_FROM: u64 = 9223372036854775808;
+
+const GREATEST_CODE: u64 = 18446744073709551615;
+
+const TOTAL_WORDS: usize = 2;
+
+// Where the numbers of the head stand.
+const MARK_AT: usize = 0;
+
+const SIZE_AT: usize = 1;
+
+const OWN_AT: usize = 2;
+
+const CAPACITY_AT: usize = 3;
+
+const OBJECTS_AT: usize = 4;
+
+const COUNT_AT: usize = 5;
+
+const LOADING_AT: usize = 6;
+
+// Where the words of a total stand.
+const HIGH_AT: usize = 0;
+
+const LOW_AT: usize = 1;
+
+// Where the parts of a table stand.
+const KINDS_AT: usize = 7;
+
+const TOTALS_AT: usize = 39;
+
+const CLOCK_AT: usize = 103;
+
+// The words of a row ahead of its vector.
+const KEY: usize = 7;
+
+// Whether a number is from the least to the greatest.
+fn in_range(number: u32, least: u32, greatest: u32) -> bool
+    ensures { λ r. ⌜ r ≡ between least greatest number ⌝ }
+{
+    if number < least {
+        return false;
+    }
+    number <= greatest
+}
+
+// Whether every word is from the least to the greatest.
+fn all_in_range(words: &[u32], least: u32, greatest: u32) -> bool
+    ensures { λ r. ⌜ r ≡ every (between least greatest) (now (words .entry)) ⌝ }
+{
+    let mut good = true;
+    let mut i = 0;
+    while i < words.len() {
+        if !in_range(words[i], least, greatest) {
+            good = false;
+        }
+        i += 1;
+    }
+    good
+}
+
+// Whether the head's numbers are in range.
+fn sizes_ok(size: u32, own: u32, capacity: u32, objects: u32, count: u32) -> bool
+    ensures { λ r. ⌜ r ≡ sizesKept size own capacity objects count ⌝ }
+{
+    if !in_range(size, 1, GREATEST_SIZE) {
+        return false;
+    }
+    if size <= own {
+        return false;
+    }
+    if !in_range(capacity, 1, GREATEST_CAPACITY) {
+        return false;
+    }
+    if !in_range(objects, 1, MOST_OBJECTS) {
+        return false;
+    }
+    count <= capacity
+}
+
+// Where the rows of a group of this size start.
+fn rows_at(size: usize) -> usize
+    requires { ⌜ size ≤ 16 ⌝ }
+    ensures { λ r. ⌜ (r ≡ rowsAt size) × (r ≤ 375) ⌝ }
+{
+    CLOCK_AT + size + size * size
+}
+
+// How many words a table needs.
+fn space_for(size: usize, capacity: usize) -> usize
+    requires { ⌜ (size ≤ 16) × (capacity ≤ 512) ⌝ }
+    ensures { λ r. ⌜ r ≡ spaceFor size capacity ⌝ }
+{
+    rows_at(size) + capacity * (KEY + size)
+}
+
+// Whether the words are enough for the table that the head describes.
+fn has_room(s: &[u32]) -> bool
+    requires { ⌜ (103 ≤ length (now s)) × (sizeIn (now s) ≤ 16) × (capacityIn (now s) ≤ 512) ⌝ }
+    ensures { λ r. ⌜ r ≡ leb (spaceFor (sizeIn (now (s .entry))) (capacityIn (now (s .entry)))) (length (now (s .entry))) ⌝ }
+{
+    space_for(tags::wide(s[SIZE_AT]), tags::wide(s[CAPACITY_AT])) <= s.len()
+}
+
+// Whether the head is a table's.
+fn head_ok(s: &[u32]) -> bool
+    requires { ⌜ 103 ≤ length (now s) ⌝ }
+    ensures { λ r. ⌜ r ≡ headKept (now (s .entry)) ⌝ }
+{
+    if s[MARK_AT] != MARK {
+        return false;
+    }
+    if s[LOADING_AT] != IDLE {
+        return false;
+    }
+    if sizes_ok(
+        s[SIZE_AT],
+        s[OWN_AT],
+        s[CAPACITY_AT],
+        s[OBJECTS_AT],
+        s[COUNT_AT],
+    ) {
+        return has_room(s);
+    }
+    false
+}
+
+// Whether the kinds are known ones, with zeros after them.
+fn kinds_ok(s: &[u32]) -> bool
+    requires { ⌜ Headed (now s) ⌝ }
+    ensures { λ r. ⌜ r ≡ kindsKept (now (s .entry)) ⌝ }
+{
+    let end = KINDS_AT + tags::wide(s[OBJECTS_AT]);
+    if all_in_range(&s[KINDS_AT..end], 1, GREATEST_KIND) {
+        return rowrules::all_zero(&s[end..TOTALS_AT]);
+    }
+    false
+}
+
+// A word as a longer number, with its bound, so that no caller has to show that it fits.
+fn long(x: u32) -> u64
+    ensures { λ r. ⌜ (r ≡ x) × (r < wordLimit) ⌝ }
+{
+    x as u64
+}
+
+// The sum of a clock's entries.
+fn sum_of(clock: &[u32]) -> u64
+    requires { ⌜ length (now clock) ≤ 16 ⌝ }
+    ensures { λ r. ⌜ (r ≡ sumOfEntries (now (clock .entry))) × (r ≤ 16 * wordLimit) ⌝ }
+{
+    let mut sum: u64 = 0;
+    let mut i = 0;
+    while i < clock.len() {
+        sum += long(clock[i]);
+        i += 1;
+    }
+    sum
+}
+
+// How far from zero a total may lie.
+fn total_bound(clock: &[u32]) -> u64
+    requires { ⌜ length (now clock) ≤ 16 ⌝ }
+    ensures { λ r. ⌜ r ≡ totalBound (now (clock .entry)) ⌝ }
+{
+    GREATEST_AMOUNT * sum_of(clock)
+}
+
+// A total's two words as one number.
+fn code_of(words: &[u32]) -> u64
+    requires { ⌜ length (now words) ≡ 2 ⌝ }
+    ensures { λ r. ⌜ r ≡ ofTwoWords (getD (now (words .entry)) 0 0) (getD (now (words .entry)) 1 0) ⌝ }
+{
+    long(words[HIGH_AT]) * WORD_LIMIT + long(words[LOW_AT])
+}
+
+// Whether an object of this kind may have the total of this code.
+fn total_ok(kind: u32, code: u64, bound: u64) -> bool
+    ensures { λ r. ⌜ r ≡ totalKept bound kind (ofComplement code) ⌝ }
+{
+    if code < NEGATIVE_FROM {
+        if kind == GROW_COUNTER {
+            return code <= bound;
+        }
+        if kind == UP_DOWN_COUNTER {
+            return code <= bound;
+        }
+        return code == 0;
+    }
+    if kind != UP_DOWN_COUNTER {
+        return false;
+    }
+    GREATEST_CODE - code < bound
+}
+
+// Whether each object may have its total.
+fn each_total_ok(kinds: &[u32], totals: &[u32], bound: u64) -> bool
+    requires { ⌜ length (now kinds) * 2 ≤ length (now totals) ⌝ }
+    ensures { λ r. ⌜ r ≡ everyAt (totalKeptAt bound (now (kinds .entry))) 0 (pieces 2 (length (now (kinds .entry))) (now (totals .entry))) ⌝ }
+{
+    let mut good = true;
+    let mut k = 0;
+    let mut at = 0;
+    while k < kinds.len() {
+        let end = at + TOTAL_WORDS;
+        if !total_ok(kinds[k], code_of(&totals[at..end]), bound) {
+            good = false;
+        }
+        k += 1;
+        at = end;
+    }
+    good
+}
+
+// Whether one station's vector of the last frame accepted is what the clock allows.
+fn last_ok(vector: &[u32], clock: &[u32], station: usize, own: usize) -> bool
+    requires { ⌜ (length (now vector) ≡ length (now clock)) × (station < length (now clock)) ⌝ }
+    ensures { λ r. ⌜ r ≡ lastKept own (now (clock .entry)) station (now (vector .entry)) ⌝ }
+{
+    if station == own {
+        return rowrules::all_zero(vector);
+    }
+    if vector[station] != clock[station] {
+        return false;
+    }
+    tags::at_most(vector, clock)
+}
+
+// Whether each station's is.
+fn each_last_ok(lasts: &[u32], clock: &[u32], own: usize) -> bool
+    requires { ⌜ length (now clock) * length (now clock) ≤ length (now lasts) ⌝ }
+    ensures { λ r. ⌜ r ≡ everyAt (lastKept own (now (clock .entry))) 0 (pieces (length (now (clock .entry))) (length (now (clock .entry))) (now (lasts .entry))) ⌝ }
+{
+    let mut good = true;
+    let mut k = 0;
+    let mut at = 0;
+    while k < clock.len() {
+        let end = at + clock.len();
+        if !last_ok(&lasts[at..end], clock, k, own) {
+            good = false;
+        }
+        k += 1;
+        at = end;
+    }
+    good
+}
