@@ -47,6 +47,9 @@ area-fits n c h k = omega (arith, area n c h k)
 pub space-fits : (n c r : ℕ) → n ≤ 16 → c ≤ 512 → r ≤ 375 → Fits w64 (r + c * (7 + n))
 space-fits n c r h k l = omega (arith, area n c h k)
 
+pub space-most : (n c r : ℕ) → n ≤ 16 → c ≤ 512 → r ≤ 375 → r + c * (7 + n) ≤ 12151
+space-most n c r h k l = omega (arith, area n c h k)
+
 -- the numbers of the head
 module _ (size own capacity objects count : ℕ) (a : Bool) (ea : a ≡ between 1 16 size) where
   pub sizes-size : a ≡ false → false ≡ sizesKept size own capacity objects count

@@ -6,8 +6,9 @@ ghost use lib.ListN.{length, getD};
 ghost use Rattle.meaning.specs.Tests.{between, every, everyAt};
 ghost use Rattle.meaning.specs.Table.{sumOfEntries, totalBound};
 ghost use Rattle.layout.specs.Words.{ofComplement, ofTwoWords, pieces, wordLimit};
-ghost use Rattle.layout.specs.Layout.{capacityIn, rowsAt, sizeIn, spaceFor, totalOfWords};
-ghost use Rattle.rules.specs.TableTests.{headKept, Headed, kindsKept, lastKept, lastsKept, sizesKept, totalKept, totalKeptAt, totalsKept};
+ghost use Rattle.layout.specs.Layout.{capacityIn, holdsTable, rowsAt, rowsIn, sizeIn, spaceFor};
+ghost use Rattle.rowrules.specs.RowTests.{rowsKept};
+ghost use Rattle.rules.specs.TableTests.{clockIn, headKept, Headed, kindsIn, kindsKept, lastKept, lastsKept, mostBeforeRows, mostWords, partsKept, sizesKept, totalKept, totalKeptAt, totalsKept, unusedKept};
 
 const MARK: u32 = 1919904876;
 
@@ -114,7 +115,7 @@ fn sizes_ok(size: u32, own: u32, capacity: u32, objects: u32, count: u32) -> boo
 // Where the rows of a group of this size start.
 fn rows_at(size: usize) -> usize
     requires { ⌜ size ≤ 16 ⌝ }
-    ensures { λ r. ⌜ (r ≡ rowsAt size) × (r ≤ 375) ⌝ }
+    ensures { λ r. ⌜ (r ≡ rowsAt size) × (r ≤ mostBeforeRows) ⌝ }
 {
     CLOCK_AT + size + size * size
 }
@@ -122,7 +123,7 @@ fn rows_at(size: usize) -> usize
 // How many words a table needs.
 fn space_for(size: usize, capacity: usize) -> usize
     requires { ⌜ (size ≤ 16) × (capacity ≤ 512) ⌝ }
-    ensures { λ r. ⌜ r ≡ spaceFor size capacity ⌝ }
+    ensures { λ r. ⌜ (r ≡ spaceFor size capacity) × (r ≤ mostWords) ⌝ }
 {
     rows_at(size) + capacity * (KEY + size)
 }
@@ -276,4 +277,91 @@ fn each_last_ok(lasts: &[u32], clock: &[u32], own: usize) -> bool
         at = end;
     }
     good
+}
+
+// Whether the totals are within the bound that the clock sets, with zeros after them.
+fn totals_ok(s: &[u32]) -> bool
+    requires { ⌜ Headed (now s) ⌝ }
+    ensures { λ r. ⌜ r ≡ totalsKept (now (s .entry)) ⌝ }
+{
+    let objects = tags::wide(s[OBJECTS_AT]);
+    let kinds_end = KINDS_AT + objects;
+    let totals_end = TOTALS_AT + objects * TOTAL_WORDS;
+    let clock_end = CLOCK_AT + tags::wide(s[SIZE_AT]);
+    let bound = total_bound(&s[CLOCK_AT..clock_end]);
+    if each_total_ok(&s[KINDS_AT..kinds_end], &s[TOTALS_AT..], bound) {
+        return rowrules::all_zero(&s[totals_end..CLOCK_AT]);
+    }
+    false
+}
+
+// Whether the vectors of the last frames accepted are what the clock allows.
+fn lasts_ok(s: &[u32]) -> bool
+    requires { ⌜ Headed (now s) ⌝ }
+    ensures { λ r. ⌜ r ≡ lastsKept (now (s .entry)) ⌝ }
+{
+    let clock_end = CLOCK_AT + tags::wide(s[SIZE_AT]);
+    each_last_ok(&s[clock_end..], &s[CLOCK_AT..clock_end], tags::wide(s[OWN_AT]))
+}
+
+// Whether the rows keep their rules.
+fn rows_kept(s: &[u32]) -> bool
+    requires { ⌜ Headed (now s) ⌝ }
+    ensures { λ r. ⌜ r ≡ rowsKept (kindsIn (now (s .entry))) (clockIn (now (s .entry))) (rowsIn (now (s .entry))) ⌝ }
+{
+    let size = tags::wide(s[SIZE_AT]);
+    let kinds_end = KINDS_AT + tags::wide(s[OBJECTS_AT]);
+    let clock_end = CLOCK_AT + size;
+    let start = rows_at(size);
+    rowrules::rows_ok(
+        &s[start..],
+        KEY + size,
+        tags::wide(s[COUNT_AT]),
+        &s[KINDS_AT..kinds_end],
+        &s[CLOCK_AT..clock_end],
+    )
+}
+
+// Whether the words from the last row up to the end of the capacity are 0.
+fn unused_ok(s: &[u32]) -> bool
+    requires { ⌜ Headed (now s) ⌝ }
+    ensures { λ r. ⌜ r ≡ unusedKept (now (s .entry)) ⌝ }
+{
+    let size = tags::wide(s[SIZE_AT]);
+    let start = space_for(size, tags::wide(s[COUNT_AT]));
+    let end = space_for(size, tags::wide(s[CAPACITY_AT]));
+    rowrules::all_zero(&s[start..end])
+}
+
+// Whether all that stands behind the head keeps the rules.
+fn parts_ok(s: &[u32]) -> bool
+    requires { ⌜ Headed (now s) ⌝ }
+    ensures { λ r. ⌜ r ≡ partsKept (now (s .entry)) ⌝ }
+{
+    if !kinds_ok(s) {
+        return false;
+    }
+    if !totals_ok(s) {
+        return false;
+    }
+    if !lasts_ok(s) {
+        return false;
+    }
+    if !rows_kept(s) {
+        return false;
+    }
+    unused_ok(s)
+}
+
+// Whether the words hold a table by the table rules, whatever they are and however many.
+pub fn is_table(s: &[u32]) -> bool
+    ensures { λ r. ⌜ r ≡ holdsTable (now (s .entry)) ⌝ }
+{
+    if s.len() < CLOCK_AT {
+        return false;
+    }
+    if head_ok(s) {
+        return parts_ok(s);
+    }
+    false
 }

@@ -1,4 +1,4 @@
-use Rattle.rules.proofs.Heading.{area-fits, space-fits}
+use Rattle.rules.proofs.Heading.{area-fits, space-fits, space-most}
 use native.Mathlib.Omega.{arith}
 use borrow.Author.Needs.{needs}
 use Rattle.rules.proofs.space_for.Statement.{statement}
@@ -20,7 +20,7 @@ add-result-2 : tie.Need-add-result-2
 add-result-2 c = search (space-fits, arith)
 
 returns : tie.Need-returns
-returns c = search needs
+returns c = (search needs, search space-most)
 
 pub space-for-spec : {M : Type 1} → statement M
 space-for-spec = tie.close (tie.spec rows-at-requires add-result mul-result add-result-2 returns)
