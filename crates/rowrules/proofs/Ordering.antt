@@ -136,8 +136,8 @@ module _ (n : ℕ) (kinds : List ℕ) where
       let none = not-holds (k && s) (and-left (not (k && s)) l e) in (
         sym (lower-row n a b A B) ∙ and-right (not (k && s)) l e,
         λ four. fails (sameValue (rowOf a .operation) (rowOf b)) (λ q.
-        let o = eqb-true (getD b 0 0) (getD a 0 0) (and-left (eqb (getD b 0 0) (getD a 0 0)) (eqb (rowOf b .operation .value) (rowOf a .operation .value)) q) in
-        clash (k && s) (and-both k s (rw o four) (same-value n a b A B ∙ q)) none),
+            let o = eqb-true (getD b 0 0) (getD a 0 0) (and-left (eqb (getD b 0 0) (getD a 0 0)) (eqb (rowOf b .operation .value) (rowOf a .operation .value)) q) in
+            clash (k && s) (and-both k s (rw o four) (same-value n a b A B ∙ q)) none),
       )
 
   follows-in : (a b : List ℕ) → Readable n a → Readable n b → lowerRow (rowOf a) (rowOf b) ≡ true → (eqb (kindAt (getD a 0 0)) 4 ≡ true → sameValue (rowOf a .operation) (rowOf b) ≡ false) → follows kinds a b ≡ true

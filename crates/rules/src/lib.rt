@@ -301,7 +301,11 @@ fn lasts_ok(s: &[u32]) -> bool
     ensures { λ r. ⌜ r ≡ lastsKept (now (s .entry)) ⌝ }
 {
     let clock_end = CLOCK_AT + tags::wide(s[SIZE_AT]);
-    each_last_ok(&s[clock_end..], &s[CLOCK_AT..clock_end], tags::wide(s[OWN_AT]))
+    each_last_ok(
+        &s[clock_end..],
+        &s[CLOCK_AT..clock_end],
+        tags::wide(s[OWN_AT]),
+    )
 }
 
 // Whether the rows keep their rules.
