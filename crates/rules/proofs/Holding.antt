@@ -29,7 +29,8 @@ use Rattle.layout.proofs.Changing.{spread}
 use Rattle.rowrules.specs.RowTests.{rowKept, follows, chained, rowsKept}
 use Rattle.rowrules.proofs.RowMeaning.{zeros-are, are-zeros, kept-spelt, kept-rule, rule-kept}
 use Rattle.rowrules.proofs.Ordering.{Readable, chain-sorted, chain-one-row, sorted-chain}
-use Rattle.rules.specs.TableTests.{Headed, headKept, kindsIn, clockIn, kindsKept, totalKept, totalKeptAt, totalsKept, lastKept, lastsKept, unusedKept, partsKept}
+use Rattle.clockrules.specs.ClockTests.{totalKept, totalKeptAt, lastKept}
+use Rattle.rules.specs.TableTests.{Headed, headKept, kindsIn, clockIn, kindsKept, totalsKept, lastsKept, unusedKept, partsKept}
 use Rattle.rules.proofs.Heading.{headed, is-headed, head-short}
 use Rattle.rules.proofs.Parts.{clock-long, kinds-long, row-area}
 

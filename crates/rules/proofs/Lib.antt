@@ -1,4 +1,3 @@
 pub mod Heading
-pub mod Totals
 pub mod Parts
 pub mod Holding

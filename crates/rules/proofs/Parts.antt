@@ -15,7 +15,8 @@ use Rattle.layout.specs.Words.{allZero, pieces}
 use Rattle.layout.specs.Layout.{rowsAt, rowsIn, spaceFor, sizeIn, ownIn, capacityIn, objectsIn, countIn}
 use Rattle.rowrules.specs.RowTests.{rowsKept}
 use Rattle.rowrules.proofs.Tagging.{rest-is}
-use Rattle.rules.specs.TableTests.{Headed, kindsIn, clockIn, headKept, kindsKept, totalKeptAt, totalsKept, lastKept, lastsKept, unusedKept, partsKept}
+use Rattle.clockrules.specs.ClockTests.{totalKeptAt, lastKept}
+use Rattle.rules.specs.TableTests.{Headed, kindsIn, clockIn, headKept, kindsKept, totalsKept, lastsKept, unusedKept, partsKept}
 
 -- the kinds
 module _ (s : List ℕ) (o : ℕ) (eo : o ≡ getD s 4 0) (r : Bool) (er : r ≡ every (between 1 9) (take (7 + o - 7) (drop 7 s))) where

@@ -13,6 +13,7 @@ use Rattle.meaning.specs.Table.{greatestSize, greatestCapacity, mostObjects, gr
 use Rattle.layout.specs.Words.{allZero, pieces}
 use Rattle.layout.specs.Layout.{tableMark, kindsAt, totalsAt, clockAt, lastAt, rowsAt, rowWidth, spaceFor, totalOfWords, sizeIn, ownIn, capacityIn, objectsIn, countIn, rowsIn}
 use Rattle.rowrules.specs.RowTests.{rowsKept}
+use Rattle.clockrules.specs.ClockTests.{totalKeptAt, lastKept}
 
 -- "header in opening's ranges", and rows "at most capacity".
 unfoldable pub sizesKept : ℕ → ℕ → ℕ → ℕ → ℕ → Bool
@@ -62,26 +63,10 @@ kindsKept words =
     every (between 1 greatestKind) (kindsIn words)
     && allZero (take (mostObjects - objectsIn words) (drop (kindsAt + objectsIn words) words))
 
--- "totals within the bound above, not negative in kind 1"; an object that is no counter has total 0.
-unfoldable pub totalKept : ℕ → ℕ → ℤ → Bool
-totalKept bound kind total =
-    cond (isCounter kind)
-    (leb (natAbs total) bound && not (eqb kind growCounter && isNegative total))
-    (eqb (natAbs total) 0)
-
-abbrev pub totalKeptAt : ℕ → List ℕ → ℕ → List ℕ → Bool
-totalKeptAt bound kinds object words = totalKept bound (getD kinds object 0) (totalOfWords words)
-
 unfoldable pub totalsKept : List ℕ → Bool
 totalsKept words =
     everyAt (totalKeptAt (totalBound (clockIn words)) (kindsIn words)) 0 (pieces 2 (objectsIn words) (drop totalsAt words))
     && allZero (take (2 * mostObjects - objectsIn words * 2) (drop (totalsAt + objectsIn words * 2) words))
-
--- "L[k] at or below D with L[k][k] = D[k]; own L ... 0"
-unfoldable pub lastKept : ℕ → Vector → ℕ → Vector → Bool
-lastKept own clock station vector =
-    cond (eqb station own) (allZero vector)
-    (eqb (getD vector station 0) (getD clock station 0) && atMost vector clock)
 
 unfoldable pub lastsKept : List ℕ → Bool
 lastsKept words =

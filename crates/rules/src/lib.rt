@@ -1,14 +1,12 @@
 // The one test that every outside call makes: whether lent words hold a table.
 ghost use mathlib.Core.Path.{_≡_};
-ghost use Prim.Native.Nat.{_+_, _*_, _≤_, _<_};
+ghost use Prim.Native.Nat.{_≤_};
 ghost use lib.Dec.{leb};
-ghost use lib.ListN.{length, getD};
-ghost use Rattle.meaning.specs.Tests.{between, every, everyAt};
-ghost use Rattle.meaning.specs.Table.{sumOfEntries, totalBound};
-ghost use Rattle.layout.specs.Words.{ofComplement, ofTwoWords, pieces, wordLimit};
+ghost use lib.ListN.{length};
+ghost use Rattle.meaning.specs.Tests.{between, every};
 ghost use Rattle.layout.specs.Layout.{capacityIn, holdsTable, rowsAt, rowsIn, sizeIn, spaceFor};
 ghost use Rattle.rowrules.specs.RowTests.{rowsKept};
-ghost use Rattle.rules.specs.TableTests.{clockIn, headKept, Headed, kindsIn, kindsKept, lastKept, lastsKept, mostBeforeRows, mostWords, partsKept, sizesKept, totalKept, totalKeptAt, totalsKept, unusedKept};
+ghost use Rattle.rules.specs.TableTests.{clockIn, headKept, Headed, kindsIn, kindsKept, lastsKept, mostBeforeRows, mostWords, partsKept, sizesKept, totalsKept, unusedKept};
 
 const MARK: u32 = 1919904876;
 
@@ -22,21 +20,6 @@ const GREATEST_CAPACITY: u32 = 512;
 const MOST_OBJECTS: u32 = 32;
 
 const GREATEST_KIND: u32 = 9;
-
-const GROW_COUNTER: u32 = 1;
-
-const UP_DOWN_COUNTER: u32 = 2;
-
-const GREATEST_AMOUNT: u64 = 1000000;
-
-const WORD_LIMIT: u64 = 4294967296;
-
-// The first code of a negative total in two's complement, and the last, which is -1.
-const NEGATIVE_FROM: u64 = 9223372036854775808;
-
-const GREATEST_CODE: u64 = 18446744073709551615;
-
-const TOTAL_WORDS: usize = 2;
 
 // Where the numbers of the head stand.
 const MARK_AT: usize = 0;
@@ -52,11 +35,6 @@ const OBJECTS_AT: usize = 4;
 const COUNT_AT: usize = 5;
 
 const LOADING_AT: usize = 6;
-
-// Where the words of a total stand.
-const HIGH_AT: usize = 0;
-
-const LOW_AT: usize = 1;
 
 // Where the parts of a table stand.
 const KINDS_AT: usize = 7;
@@ -171,114 +149,6 @@ fn kinds_ok(s: &[u32]) -> bool
     false
 }
 
-// A word as a longer number, with its bound, so that no caller has to show that it fits.
-fn long(x: u32) -> u64
-    ensures { λ r. ⌜ (r ≡ x) × (r < wordLimit) ⌝ }
-{
-    x as u64
-}
-
-// The sum of a clock's entries.
-fn sum_of(clock: &[u32]) -> u64
-    requires { ⌜ length (now clock) ≤ 16 ⌝ }
-    ensures { λ r. ⌜ (r ≡ sumOfEntries (now (clock .entry))) × (r ≤ 16 * wordLimit) ⌝ }
-{
-    let mut sum: u64 = 0;
-    let mut i = 0;
-    while i < clock.len() {
-        sum += long(clock[i]);
-        i += 1;
-    }
-    sum
-}
-
-// How far from zero a total may lie.
-fn total_bound(clock: &[u32]) -> u64
-    requires { ⌜ length (now clock) ≤ 16 ⌝ }
-    ensures { λ r. ⌜ r ≡ totalBound (now (clock .entry)) ⌝ }
-{
-    GREATEST_AMOUNT * sum_of(clock)
-}
-
-// A total's two words as one number.
-fn code_of(words: &[u32]) -> u64
-    requires { ⌜ length (now words) ≡ 2 ⌝ }
-    ensures { λ r. ⌜ r ≡ ofTwoWords (getD (now (words .entry)) 0 0) (getD (now (words .entry)) 1 0) ⌝ }
-{
-    long(words[HIGH_AT]) * WORD_LIMIT + long(words[LOW_AT])
-}
-
-// Whether an object of this kind may have the total of this code.
-fn total_ok(kind: u32, code: u64, bound: u64) -> bool
-    ensures { λ r. ⌜ r ≡ totalKept bound kind (ofComplement code) ⌝ }
-{
-    if code < NEGATIVE_FROM {
-        if kind == GROW_COUNTER {
-            return code <= bound;
-        }
-        if kind == UP_DOWN_COUNTER {
-            return code <= bound;
-        }
-        return code == 0;
-    }
-    if kind != UP_DOWN_COUNTER {
-        return false;
-    }
-    GREATEST_CODE - code < bound
-}
-
-// Whether each object may have its total.
-fn each_total_ok(kinds: &[u32], totals: &[u32], bound: u64) -> bool
-    requires { ⌜ length (now kinds) * 2 ≤ length (now totals) ⌝ }
-    ensures { λ r. ⌜ r ≡ everyAt (totalKeptAt bound (now (kinds .entry))) 0 (pieces 2 (length (now (kinds .entry))) (now (totals .entry))) ⌝ }
-{
-    let mut good = true;
-    let mut k = 0;
-    let mut at = 0;
-    while k < kinds.len() {
-        let end = at + TOTAL_WORDS;
-        if !total_ok(kinds[k], code_of(&totals[at..end]), bound) {
-            good = false;
-        }
-        k += 1;
-        at = end;
-    }
-    good
-}
-
-// Whether one station's vector of the last frame accepted is what the clock allows.
-fn last_ok(vector: &[u32], clock: &[u32], station: usize, own: usize) -> bool
-    requires { ⌜ (length (now vector) ≡ length (now clock)) × (station < length (now clock)) ⌝ }
-    ensures { λ r. ⌜ r ≡ lastKept own (now (clock .entry)) station (now (vector .entry)) ⌝ }
-{
-    if station == own {
-        return rowrules::all_zero(vector);
-    }
-    if vector[station] != clock[station] {
-        return false;
-    }
-    tags::at_most(vector, clock)
-}
-
-// Whether each station's is.
-fn each_last_ok(lasts: &[u32], clock: &[u32], own: usize) -> bool
-    requires { ⌜ length (now clock) * length (now clock) ≤ length (now lasts) ⌝ }
-    ensures { λ r. ⌜ r ≡ everyAt (lastKept own (now (clock .entry))) 0 (pieces (length (now (clock .entry))) (length (now (clock .entry))) (now (lasts .entry))) ⌝ }
-{
-    let mut good = true;
-    let mut k = 0;
-    let mut at = 0;
-    while k < clock.len() {
-        let end = at + clock.len();
-        if !last_ok(&lasts[at..end], clock, k, own) {
-            good = false;
-        }
-        k += 1;
-        at = end;
-    }
-    good
-}
-
 // Whether the totals are within the bound that the clock sets, with zeros after them.
 fn totals_ok(s: &[u32]) -> bool
     requires { ⌜ Headed (now s) ⌝ }
@@ -286,10 +156,10 @@ fn totals_ok(s: &[u32]) -> bool
 {
     let objects = tags::wide(s[OBJECTS_AT]);
     let kinds_end = KINDS_AT + objects;
-    let totals_end = TOTALS_AT + objects * TOTAL_WORDS;
+    let totals_end = TOTALS_AT + objects * clockrules::TOTAL_WORDS;
     let clock_end = CLOCK_AT + tags::wide(s[SIZE_AT]);
-    let bound = total_bound(&s[CLOCK_AT..clock_end]);
-    if each_total_ok(&s[KINDS_AT..kinds_end], &s[TOTALS_AT..], bound) {
+    let bound = clockrules::total_bound(&s[CLOCK_AT..clock_end]);
+    if clockrules::each_total_ok(&s[KINDS_AT..kinds_end], &s[TOTALS_AT..], bound) {
         return rowrules::all_zero(&s[totals_end..CLOCK_AT]);
     }
     false
@@ -301,7 +171,7 @@ fn lasts_ok(s: &[u32]) -> bool
     ensures { λ r. ⌜ r ≡ lastsKept (now (s .entry)) ⌝ }
 {
     let clock_end = CLOCK_AT + tags::wide(s[SIZE_AT]);
-    each_last_ok(
+    clockrules::each_last_ok(
         &s[clock_end..],
         &s[CLOCK_AT..clock_end],
         tags::wide(s[OWN_AT]),

@@ -5,7 +5,7 @@ use Rattle.rules.proofs.lasts_ok.Statement.{statement}
 use Rattle.rules.proofs.lasts_ok.Tie as tie
 use Rattle.rules.proofs.lasts_ok.Reads as reads
 use Rattle.rules.proofs.lasts_ok.Lts as lts
-use Rattle.rules.proofs.each_last_ok.Reads as each-last-ok-reads
+use Rattle.clockrules.proofs.each_last_ok.Reads as each-last-ok-reads
 use Rattle.tags.proofs.wide.Reads as wide-reads
 
 shared-slice-read-wide : tie.Need-shared-slice-read-wide

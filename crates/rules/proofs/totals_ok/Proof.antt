@@ -6,8 +6,8 @@ use Rattle.rules.proofs.totals_ok.Tie as tie
 use Rattle.rules.proofs.totals_ok.Reads as reads
 use Rattle.rules.proofs.totals_ok.Lts as lts
 use Rattle.rowrules.proofs.all_zero.Reads as all-zero-reads
-use Rattle.rules.proofs.each_total_ok.Reads as each-total-ok-reads
-use Rattle.rules.proofs.total_bound.Reads as total-bound-reads
+use Rattle.clockrules.proofs.each_total_ok.Reads as each-total-ok-reads
+use Rattle.clockrules.proofs.total_bound.Reads as total-bound-reads
 use Rattle.tags.proofs.wide.Reads as wide-reads
 
 shared-slice-read-wide : tie.Need-shared-slice-read-wide

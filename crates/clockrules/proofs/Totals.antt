@@ -17,7 +17,7 @@ use Rattle.meaning.specs.Operations.{isCounter}
 use Rattle.meaning.specs.Table.{sumOfEntries, totalBound, isNegative}
 use Rattle.meaning.proofs.Tests.{iff}
 use Rattle.layout.specs.Words.{allZero, ofComplement, ofTwoWords}
-use Rattle.rules.specs.TableTests.{totalKept, totalKeptAt, lastKept}
+use Rattle.clockrules.specs.ClockTests.{totalKept, totalKeptAt, lastKept}
 use Rattle.rowrules.proofs.Scanning.{Passed, piece-fails, piece-holds}
 
 -- the sum: what is added and the sum of the rest make the sum of all

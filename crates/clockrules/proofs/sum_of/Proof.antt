@@ -1,13 +1,13 @@
 use Prim.Native.Nat.{_-_}
 use lib.ListN.{length}
-use Rattle.rules.proofs.Totals.{Summed, sum-start, sum-fits, sum-more, sum-done, sum-bounded}
+use Rattle.clockrules.proofs.Totals.{Summed, sum-start, sum-fits, sum-more, sum-done, sum-bounded}
 use native.Mathlib.Omega.{arith}
 use borrow.Author.Needs.{needs}
-use Rattle.rules.proofs.sum_of.Statement.{statement}
-use Rattle.rules.proofs.sum_of.Tie as tie
-use Rattle.rules.proofs.sum_of.Reads as reads
-use Rattle.rules.proofs.sum_of.Lts as lts
-use Rattle.rules.proofs.long.Reads as long-reads
+use Rattle.clockrules.proofs.sum_of.Statement.{statement}
+use Rattle.clockrules.proofs.sum_of.Tie as tie
+use Rattle.clockrules.proofs.sum_of.Reads as reads
+use Rattle.clockrules.proofs.sum_of.Lts as lts
+use Rattle.clockrules.proofs.long.Reads as long-reads
 
 abbrev Inv-loop : tie.InvT-loop
 Inv-loop clock sum₀ i₀ sum i = Summed clock sum i

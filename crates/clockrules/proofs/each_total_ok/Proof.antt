@@ -1,18 +1,18 @@
-use Rattle.rules.proofs.Totals.{total-fails, total-holds}
+use Rattle.clockrules.proofs.Totals.{total-fails, total-holds}
 use mathlib.Core.Logic.{⊎-elim}
 use Prim.Native.Nat.{_-_}
 use lib.ListN.{length}
 use borrow.Author.Tests.{not-true, not-false}
-use Rattle.rules.specs.TableTests.{totalKeptAt}
+use Rattle.clockrules.specs.ClockTests.{totalKeptAt}
 use Rattle.rowrules.proofs.Scanning.{Passed, pass-start, piece-room, end-fits, start-fits, piece-long, pass-done}
 use native.Mathlib.Omega.{arith}
 use borrow.Author.Needs.{needs}
-use Rattle.rules.proofs.each_total_ok.Statement.{statement}
-use Rattle.rules.proofs.each_total_ok.Tie as tie
-use Rattle.rules.proofs.each_total_ok.Reads as reads
-use Rattle.rules.proofs.each_total_ok.Lts as lts
-use Rattle.rules.proofs.code_of.Reads as code-of-reads
-use Rattle.rules.proofs.total_ok.Reads as total-ok-reads
+use Rattle.clockrules.proofs.each_total_ok.Statement.{statement}
+use Rattle.clockrules.proofs.each_total_ok.Tie as tie
+use Rattle.clockrules.proofs.each_total_ok.Reads as reads
+use Rattle.clockrules.proofs.each_total_ok.Lts as lts
+use Rattle.clockrules.proofs.code_of.Reads as code-of-reads
+use Rattle.clockrules.proofs.total_ok.Reads as total-ok-reads
 
 abbrev Inv-loop : tie.InvT-loop
 Inv-loop kinds totals bound good₀ k₀ at₀ good k at = Passed (totalKeptAt bound kinds) 2 (length kinds) totals good k at

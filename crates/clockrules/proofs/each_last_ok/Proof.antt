@@ -2,15 +2,15 @@ use mathlib.Core.Logic.{⊎-elim}
 use Prim.Native.Nat.{_-_}
 use lib.ListN.{length}
 use borrow.Author.Tests.{not-true, not-false}
-use Rattle.rules.specs.TableTests.{lastKept}
+use Rattle.clockrules.specs.ClockTests.{lastKept}
 use Rattle.rowrules.proofs.Scanning.{Passed, pass-start, piece-room, end-fits, start-fits, piece-long, piece-fails, piece-holds, pass-done}
 use native.Mathlib.Omega.{arith}
 use borrow.Author.Needs.{needs}
-use Rattle.rules.proofs.each_last_ok.Statement.{statement}
-use Rattle.rules.proofs.each_last_ok.Tie as tie
-use Rattle.rules.proofs.each_last_ok.Reads as reads
-use Rattle.rules.proofs.each_last_ok.Lts as lts
-use Rattle.rules.proofs.last_ok.Reads as last-ok-reads
+use Rattle.clockrules.proofs.each_last_ok.Statement.{statement}
+use Rattle.clockrules.proofs.each_last_ok.Tie as tie
+use Rattle.clockrules.proofs.each_last_ok.Reads as reads
+use Rattle.clockrules.proofs.each_last_ok.Lts as lts
+use Rattle.clockrules.proofs.last_ok.Reads as last-ok-reads
 
 abbrev Inv-loop : tie.InvT-loop
 Inv-loop lasts clock own good₀ k₀ at₀ good k at = Passed (lastKept own clock) (length clock) (length clock) lasts good k at

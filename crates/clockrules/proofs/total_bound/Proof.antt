@@ -1,11 +1,11 @@
-use Rattle.rules.proofs.Totals.{bound-there}
+use Rattle.clockrules.proofs.Totals.{bound-there}
 use native.Mathlib.Omega.{arith}
 use borrow.Author.Needs.{needs}
-use Rattle.rules.proofs.total_bound.Statement.{statement}
-use Rattle.rules.proofs.total_bound.Tie as tie
-use Rattle.rules.proofs.total_bound.Reads as reads
-use Rattle.rules.proofs.total_bound.Lts as lts
-use Rattle.rules.proofs.sum_of.Reads as sum-of-reads
+use Rattle.clockrules.proofs.total_bound.Statement.{statement}
+use Rattle.clockrules.proofs.total_bound.Tie as tie
+use Rattle.clockrules.proofs.total_bound.Reads as reads
+use Rattle.clockrules.proofs.total_bound.Lts as lts
+use Rattle.clockrules.proofs.sum_of.Reads as sum-of-reads
 
 sum-of-requires : tie.Need-sum-of-requires
 sum-of-requires c κs = search needs

@@ -1,10 +1,10 @@
-use Rattle.rules.proofs.Totals.{last-own, last-differs, last-below}
+use Rattle.clockrules.proofs.Totals.{last-own, last-differs, last-below}
 use native.Mathlib.Omega.{arith}
 use borrow.Author.Needs.{needs}
-use Rattle.rules.proofs.last_ok.Statement.{statement}
-use Rattle.rules.proofs.last_ok.Tie as tie
-use Rattle.rules.proofs.last_ok.Reads as reads
-use Rattle.rules.proofs.last_ok.Lts as lts
+use Rattle.clockrules.proofs.last_ok.Statement.{statement}
+use Rattle.clockrules.proofs.last_ok.Tie as tie
+use Rattle.clockrules.proofs.last_ok.Reads as reads
+use Rattle.clockrules.proofs.last_ok.Lts as lts
 use Rattle.rowrules.proofs.all_zero.Reads as all-zero-reads
 use Rattle.tags.proofs.at_most.Reads as at-most-reads
 

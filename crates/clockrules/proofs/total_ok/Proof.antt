@@ -1,10 +1,10 @@
-use Rattle.rules.proofs.Totals.{total-grown, total-up, total-none, total-negative, total-down}
+use Rattle.clockrules.proofs.Totals.{total-grown, total-up, total-none, total-negative, total-down}
 use native.Mathlib.Omega.{arith}
 use borrow.Author.Needs.{needs}
-use Rattle.rules.proofs.total_ok.Statement.{statement}
-use Rattle.rules.proofs.total_ok.Tie as tie
-use Rattle.rules.proofs.total_ok.Reads as reads
-use Rattle.rules.proofs.total_ok.Lts as lts
+use Rattle.clockrules.proofs.total_ok.Statement.{statement}
+use Rattle.clockrules.proofs.total_ok.Tie as tie
+use Rattle.clockrules.proofs.total_ok.Reads as reads
+use Rattle.clockrules.proofs.total_ok.Lts as lts
 
 returns : tie.Need-returns
 returns c = search total-grown
