@@ -38,7 +38,7 @@ returns : tie.Need-returns
 returns c = search row-settled
 
 returns-2 : tie.Need-returns-2
-returns-2 c = search row-settled-only
+returns-2 c = search (row-settled-only, arith)
 
 unsettled-ok-requires : tie.Need-unsettled-ok-requires
 unsettled-ok-requires c κs = search needs

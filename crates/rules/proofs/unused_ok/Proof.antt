@@ -37,10 +37,10 @@ mul-all-zero : tie.Need-mul-all-zero
 mul-all-zero c = search needs
 
 sub-all-zero : tie.Need-sub-all-zero
-sub-all-zero c = search unused-start
+sub-all-zero c = search (unused-start, arith)
 
 part-all-zero-start : tie.Need-part-all-zero-start
-part-all-zero-start c = search unused-start
+part-all-zero-start c = search (unused-start, arith)
 
 part-all-zero-end : tie.Need-part-all-zero-end
 part-all-zero-end c = let a = c .before .before .before .before .before .before .before .before .before in let w = c .before .before .before .before .before .before .wide in unused-end (a .args .s .now) (a .pre) (w .result) (w .ensures .0) (c .before .wide3 .result) (c .space-for2 .result) (c .before .wide3 .ensures .0) (c .space-for2 .ensures .0)
