@@ -116,6 +116,13 @@ sizes-in size own capacity objects count Z =
     rw (between-in 1 16 size (Z .some) (Z .few), lt-ltb own size (Z .within-group), between-in 1 512 capacity (Z .rooms) (Z .small), between-in 1 32 objects (Z .object) (Z .most)) (le-leb count capacity (Z .within))
 
 -- the head
+module _ (s : List ℕ) (r : Bool) (e : r ≡ sizesKept (getD s 1 0) (getD s 2 0) (getD s 3 0) (getD s 4 0) (getD s 5 0)) (h : r ≡ true) where
+  pub head-few : getD s 1 0 ≤ 16
+  head-few = sizes-out (getD s 1 0) (getD s 2 0) (getD s 3 0) (getD s 4 0) (getD s 5 0) (sym e ∙ h) .few
+
+  pub head-small : getD s 3 0 ≤ 512
+  head-small = sizes-out (getD s 1 0) (getD s 2 0) (getD s 3 0) (getD s 4 0) (getD s 5 0) (sym e ∙ h) .small
+
 module _ (s : List ℕ) where
   pub head-mark : (getD s 0 0 ≡ 1919904876 → ⊥) → false ≡ headKept s
   unfolding headKept
@@ -132,12 +139,6 @@ module _ (s : List ℕ) where
       head-sizes h = rw (eq-eqb (getD s 0 0) 1919904876 m, eq-eqb (getD s 6 0) 0 i, sym e ∙ h) refl
 
       module _ (h : r ≡ true) where
-        pub head-few : getD s 1 0 ≤ 16
-        head-few = sizes-out (getD s 1 0) (getD s 2 0) (getD s 3 0) (getD s 4 0) (getD s 5 0) (sym e ∙ h) .few
-
-        pub head-small : getD s 3 0 ≤ 512
-        head-small = sizes-out (getD s 1 0) (getD s 2 0) (getD s 3 0) (getD s 4 0) (getD s 5 0) (sym e ∙ h) .small
-
         pub head-room : (b : Bool) → b ≡ leb (spaceFor (getD s 1 0) (getD s 3 0)) (length s) → b ≡ headKept s
         unfolding headKept
         head-room b q = rw (eq-eqb (getD s 0 0) 1919904876 m, eq-eqb (getD s 6 0) 0 i, sym e ∙ h) q

@@ -27,7 +27,7 @@ shared-slice-read-if2-2 : tie.Need-shared-slice-read-if2-2
 shared-slice-read-if2-2 c = search needs
 
 returns-2 : tie.Need-returns-2
-returns-2 c = search (last-differs, arith)
+returns-2 c = last-differs _ _ _ _ (search needs) (λ z. omega arith)
 
 at-most-requires : tie.Need-at-most-requires
 at-most-requires c κs = search needs

@@ -38,7 +38,7 @@ returns : tie.Need-returns
 returns c = search row-settled
 
 returns-2 : tie.Need-returns-2
-returns-2 c = search (row-settled-only, arith)
+returns-2 c = let k = c .before .before .before .before .before .kind-of in let t = c .before .before .before .before .content-ok in row-settled-only _ _ _ (k .result) (k .ensures) (t .result) (t .ensures) (c .before .before .before .if1 .taken) (c .before .if2 .left) (omega arith)
 
 unsettled-ok-requires : tie.Need-unsettled-ok-requires
 unsettled-ok-requires c κs = search needs

@@ -18,7 +18,7 @@ shared-slice-read-if2 : tie.Need-shared-slice-read-if2
 shared-slice-read-if2 c = search needs
 
 returns-2 : tie.Need-returns-2
-returns-2 c = search (head-loading, arith)
+returns-2 c = head-loading _ (search needs) (λ z. omega arith)
 
 shared-slice-read-sizes-ok : tie.Need-shared-slice-read-sizes-ok
 shared-slice-read-sizes-ok c = search needs
