@@ -1,19 +1,18 @@
 -- What a row's kind lets it hold.
-use Prim.Native.Nat.{ℕ, zero, suc, _+_, _*_, _≤_, _<_}
+use Prim.Native.Nat.{ℕ, _+_, _*_, _≤_, _<_}
 use mathlib.Core.Path.{_≡_, refl, sym, ap, subst, _∙_}
 use mathlib.Core.Bool.{Bool, true, false, not, _&&_, _||_, cond}
 use mathlib.Core.List.{List, [], _∷_}
 use native.Mathlib.Omega.{arith}
-use borrow.Author.Tests.{eqb-true, eqb-false, eq-eqb, ne-eqb, ltb-true, lt-ltb, le-ltb}
+use borrow.Author.Tests.{eqb-true, eqb-false, ne-eqb, lt-ltb, le-ltb}
 use mir.Val.{Fits}
 use mir.Syntax.{w32}
 use lib.Dec.{eqb, ltb}
 use lib.ListN.{length, getD, List·getD-eq-default}
-use Rattle.meaning.specs.Tests.{any}
 use Rattle.meaning.specs.Operations.{Operation, isCounter, isFlag, codesOf, codeAllowed, valueAllowed}
 use Rattle.meaning.specs.Arrival.{getsRow}
-use Rattle.meaning.specs.Table.{storable, settledOnly}
-use Rattle.meaning.proofs.Tests.{cases, iff, and-left, and-right, not-holds, fails}
+use Rattle.meaning.specs.Table.{storable}
+use Rattle.meaning.proofs.Tests.{cases, and-left, and-right, not-holds}
 use Rattle.layout.specs.Layout.{rowOf}
 use Rattle.rowrules.specs.RowTests.{contentKept}
 

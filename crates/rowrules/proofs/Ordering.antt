@@ -1,17 +1,17 @@
 -- Rows of which each may follow the one before it are in strict order, with one row a value in kind 4, and the other way round.
-use Prim.Native.Nat.{ℕ, zero, suc, _+_, _-_, _*_, _≤_, _<_}
-use mathlib.Core.Path.{_≡_, refl, sym, ap, subst, _∙_}
-use mathlib.Core.Bool.{Bool, true, false, not, _&&_, _||_, cond, false≢true, and-true, and-false}
+use Prim.Native.Nat.{ℕ, _+_, _-_, _*_, _≤_, _<_}
+use mathlib.Core.Path.{_≡_, refl, sym, ap, _∙_}
+use mathlib.Core.Bool.{Bool, true, false, not, _&&_, _||_, cond, and-false}
 use mathlib.Core.Logic.{⊎-elim}
-use mathlib.Core.List.{List, [], _∷_, map, List·Memᴰ, List·Memᴰ·head, List·Memᴰ·tail, List·Memᴰ·cases-cons}
+use mathlib.Core.List.{List, [], _∷_, map, List·Memᴰ·head, List·Memᴰ·cases-cons}
 use native.Mathlib.Omega.{arith}
 use borrow.Author.Tests.{eqb-true, eqb-false, eq-eqb}
 use lib.Dec.{eqb, ltb}
-use lib.ListN.{length, getD, take, drop}
+use lib.ListN.{length, getD, take}
 use lib.Seq.{take-take}
 use Rattle.meaning.specs.Tests.{any}
 use Rattle.meaning.specs.Order.{same}
-use Rattle.meaning.specs.Operations.{Operation, numberOf}
+use Rattle.meaning.specs.Operations.{numberOf}
 use Rattle.meaning.specs.Meaning.{on}
 use Rattle.meaning.specs.Rows.{Row, keyOf, lowerKey, lowerRow}
 use Rattle.meaning.specs.Arrival.{sameValue}

@@ -1,18 +1,17 @@
 -- What the tests of a row's words say of the row that they spell.
-use Prim.Native.Nat.{ℕ, zero, suc, _+_, _-_, _*_, _/_, _%_, _≤_, _<_}
-use mathlib.Core.Path.{_≡_, refl, sym, ap, subst, _∙_}
-use mathlib.Core.Bool.{Bool, true, false, not, _&&_, _||_, cond, false≢true}
-use mathlib.Core.List.{List, [], _∷_, _++_}
+use Prim.Native.Nat.{ℕ, zero, suc, _+_, _-_, _≤_, _<_}
+use mathlib.Core.Path.{_≡_, refl, sym, ap, _∙_}
+use mathlib.Core.Bool.{true, false, not, _&&_, _||_, cond, false≢true}
+use mathlib.Core.List.{List, [], _∷_}
 use native.Mathlib.Omega.{arith}
-use borrow.Author.Tests.{eqb-true, eqb-false, eq-eqb, ne-eqb, ltb-true, ltb-false, lt-ltb, le-leb, leb-true, leb-false}
+use borrow.Author.Tests.{eqb-true, eqb-false, eq-eqb, ne-eqb, ltb-true, ltb-false, lt-ltb, le-leb, leb-true}
 use lib.Dec.{eqb, ltb, leb}
-use lib.ListN.{length, getD, take, drop, replicate, length-drop, List·getD-eq-default}
+use lib.ListN.{length, getD, drop, replicate, length-drop, List·getD-eq-default}
 use lib.Seq.{drop-drop, drop-cons, getD-drop}
-use Rattle.meaning.specs.Order.{Vector, atMost, same}
-use Rattle.meaning.specs.Operations.{Operation, numberOf, valueAllowed}
-use Rattle.meaning.specs.Rows.{Row}
-use Rattle.meaning.specs.Table.{Header, Table, kindIn, storable, settledOnly, tagRule, rowRule}
-use Rattle.meaning.proofs.Tests.{cases, clash, and-left, and-right, and-both, not-holds, fails-not, or-left, or-right}
+use Rattle.meaning.specs.Order.{Vector, atMost}
+use Rattle.meaning.specs.Operations.{numberOf, valueAllowed}
+use Rattle.meaning.specs.Table.{Table, kindIn, storable, settledOnly, tagRule, rowRule}
+use Rattle.meaning.proofs.Tests.{cases, and-left, and-right, not-holds}
 use Rattle.layout.specs.Words.{allZero, padded}
 use Rattle.layout.specs.Layout.{rowOf, rowWords}
 use Rattle.layout.proofs.RowWords.{Spelt}

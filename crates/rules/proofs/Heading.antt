@@ -1,8 +1,8 @@
 -- The head of a table, by its words.
-use Prim.Native.Nat.{ℕ, zero, suc, _+_, _-_, _*_, _≤_, _<_}
-use mathlib.Core.Path.{_≡_, refl, sym, ap, _∙_}
-use mathlib.Core.Bool.{Bool, true, false, not, _&&_}
-use mathlib.Core.List.{List, [], _∷_}
+use Prim.Native.Nat.{ℕ, _+_, _-_, _*_, _≤_, _<_}
+use mathlib.Core.Path.{_≡_, refl, sym, _∙_}
+use mathlib.Core.Bool.{Bool, true, false, _&&_}
+use mathlib.Core.List.{List}
 use native.Mathlib.Nat.{mul-le-mul}
 use native.Mathlib.Omega.{arith}
 use borrow.Author.Tests.{eqb-true, eq-eqb, ne-eqb, ltb-true, lt-ltb, le-ltb, leb-true, le-leb, lt-leb}
@@ -11,8 +11,8 @@ use mir.Syntax.{w64}
 use lib.Dec.{leb, ltb, eqb}
 use lib.ListN.{length, getD}
 use Rattle.meaning.specs.Tests.{between}
-use Rattle.meaning.proofs.Tests.{and-left, and-right, between-out, between-in, clash, cases}
-use Rattle.layout.specs.Layout.{tableMark, spaceFor, rowsAt, sizeIn, ownIn, capacityIn, objectsIn, countIn}
+use Rattle.meaning.proofs.Tests.{and-left, and-right, between-out, between-in}
+use Rattle.layout.specs.Layout.{tableMark, spaceFor, sizeIn, ownIn, capacityIn, objectsIn, countIn}
 use Rattle.rules.specs.TableTests.{sizesKept, headKept, Headed}
 
 -- a number in a range

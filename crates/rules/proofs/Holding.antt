@@ -1,29 +1,28 @@
 -- The tests of the words together are the table rules.
 use Prim.Native.Nat.{ℕ, zero, suc, _+_, _-_, _*_, _≤_, _<_}
 use mathlib.Core.Path.{_≡_, refl, sym, ap, _∙_}
-use mathlib.Core.Bool.{Bool, true, false, not, _&&_, _||_, cond, and-true}
+use mathlib.Core.Bool.{Bool, true, false, _&&_, and-true}
 use mathlib.Core.List.{List, [], _∷_, _++_, map, append-assoc}
 use native.Mathlib.Omega.{arith}
-use borrow.Author.Tests.{eqb-true, eq-eqb, ltb-true, ltb-false, lt-ltb, leb-true, le-leb}
+use borrow.Author.Tests.{eq-eqb, ltb-true, ltb-false, lt-ltb, leb-true, le-leb}
 use mir.Val.{Fits}
 use mir.Syntax.{w32}
 use lib.Dec.{leb, ltb, eqb}
-use lib.IntN.{ℤ}
 use lib.ListN.{length, getD, take, drop, replicate, length-drop, length-map, length-replicate, List·getD-eq-default}
 use lib.Seq.{take-at, drop-at, drop-drop, getD-take, getD-drop, length-take-le}
-use Rattle.meaning.specs.Tests.{every, everyAt, between, allHold}
+use Rattle.meaning.specs.Tests.{every, everyAt, between}
 use Rattle.meaning.specs.Order.{Vector, entryLimit, atMost, same}
-use Rattle.meaning.specs.Rows.{Row, inOrder}
-use Rattle.meaning.specs.Table.{Header, Table, kindIn, zeros, headerRules, inRange, clockRule, lastRule, lastsRule, totalBound, totalRule, totalsRule, rowRule, oneRowAValue, tableRules, isTable}
+use Rattle.meaning.specs.Rows.{inOrder}
+use Rattle.meaning.specs.Table.{Table, kindIn, zeros, headerRules, inRange, clockRule, lastRule, lastsRule, totalBound, totalRule, totalsRule, rowRule, oneRowAValue, tableRules, isTable}
 use Rattle.meaning.proofs.Tests.{cases, clash, iff, fails, and-left, and-right, and-both, rule-at, between-in}
 use Rattle.meaning.proofs.Vectors.{same-eq, eq-same}
 use Rattle.meaning.proofs.Ascending.{order-sorted, sorted-order}
 use Rattle.meaning.proofs.TableFacts.{HeaderFacts, header-facts}
 use Rattle.layout.specs.Words.{allZero, pieces, flat, padded}
-use Rattle.layout.specs.Layout.{Laid, tableMark, totalWords, totalOfWords, totalsWords, rowWords, rowOf, headWords, rowsWords, wordsOf, tableOf, rewritten, beyond, spaceFor, rowsAt, rowsIn, sizeIn, ownIn, capacityIn, objectsIn, countIn, isSpelt, holdsTable}
+use Rattle.layout.specs.Layout.{Laid, totalWords, totalOfWords, totalsWords, rowWords, rowOf, headWords, rowsWords, wordsOf, tableOf, rewritten, beyond, spaceFor, rowsAt, rowsIn, sizeIn, ownIn, capacityIn, objectsIn, countIn, isSpelt, holdsTable}
 use Rattle.layout.proofs.Pieces.{Wide, Each, length-pieces, length-flat, wide-pieces}
 use Rattle.layout.proofs.RowWords.{Spelt, row-written}
-use Rattle.layout.proofs.Whole.{length-padded, wide-totals, each-spelt, after-rows, rows-wide}
+use Rattle.layout.proofs.Whole.{length-padded, wide-totals, each-spelt, after-rows}
 use Rattle.layout.proofs.Spelling.{Spelling, spelt-back}
 use Rattle.layout.proofs.Changing.{spread}
 use Rattle.rowrules.specs.RowTests.{rowKept, follows, chained, rowsKept}

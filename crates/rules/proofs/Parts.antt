@@ -1,22 +1,20 @@
 -- The parts of a table, as the code lends them.
-use Prim.Native.Nat.{ℕ, zero, suc, _+_, _-_, _*_, _≤_, _<_}
+use Prim.Native.Nat.{ℕ, _+_, _-_, _*_, _≤_}
 use mathlib.Core.Path.{_≡_, refl, sym, ap, _∙_}
-use mathlib.Core.Bool.{Bool, true, false, not, _&&_}
-use mathlib.Core.List.{List, [], _∷_}
+use mathlib.Core.Bool.{Bool, true, false}
+use mathlib.Core.List.{List}
 use native.Mathlib.Omega.{arith}
 use native.Mathlib.Nat.{mul-le-mul-right}
-use mir.Val.{Fits}
-use mir.Syntax.{w64}
 use lib.ListN.{length, getD, take, drop, length-drop}
 use lib.Seq.{length-take-le}
 use Rattle.meaning.specs.Tests.{every, everyAt, between}
 use Rattle.meaning.specs.Table.{totalBound}
 use Rattle.layout.specs.Words.{allZero, pieces}
-use Rattle.layout.specs.Layout.{rowsAt, rowsIn, spaceFor, sizeIn, ownIn, capacityIn, objectsIn, countIn}
+use Rattle.layout.specs.Layout.{rowsIn, spaceFor, sizeIn, capacityIn, objectsIn, countIn}
 use Rattle.rowrules.specs.RowTests.{rowsKept}
 use Rattle.rowrules.proofs.Tagging.{rest-is}
 use Rattle.clockrules.specs.ClockTests.{totalKeptAt, lastKept}
-use Rattle.rules.specs.TableTests.{Headed, kindsIn, clockIn, headKept, kindsKept, totalsKept, lastsKept, unusedKept, partsKept}
+use Rattle.rules.specs.TableTests.{Headed, kindsIn, clockIn, kindsKept, totalsKept, lastsKept, unusedKept, partsKept}
 
 -- the kinds
 module _ (s : List ℕ) (o : ℕ) (eo : o ≡ getD s 4 0) (r : Bool) (er : r ≡ every (between 1 9) (take (7 + o - 7) (drop 7 s))) where

@@ -1,17 +1,15 @@
 -- The table rules, as tests of the words of a lent space.
 use mathlib.Core.Path.{_≡_}
-use mathlib.Core.Bool.{Bool, true, false, not, _&&_, cond}
-use mathlib.Core.List.{List, [], _∷_}
+use mathlib.Core.Bool.{Bool, _&&_}
+use mathlib.Core.List.{List}
 use Prim.Native.Nat.{ℕ, _+_, _-_, _*_, _≤_, _<_}
 use lib.Dec.{leb, ltb, eqb}
-use lib.IntN.{ℤ, natAbs}
 use lib.ListN.{length, getD, take, drop}
 use Rattle.meaning.specs.Tests.{every, everyAt, between}
-use Rattle.meaning.specs.Order.{Vector, atMost}
-use Rattle.meaning.specs.Operations.{isCounter, growCounter}
-use Rattle.meaning.specs.Table.{greatestSize, greatestCapacity, mostObjects, greatestKind, totalBound, isNegative}
+use Rattle.meaning.specs.Order.{Vector}
+use Rattle.meaning.specs.Table.{greatestSize, greatestCapacity, mostObjects, greatestKind, totalBound}
 use Rattle.layout.specs.Words.{allZero, pieces}
-use Rattle.layout.specs.Layout.{tableMark, kindsAt, totalsAt, clockAt, lastAt, rowsAt, rowWidth, spaceFor, totalOfWords, sizeIn, ownIn, capacityIn, objectsIn, countIn, rowsIn}
+use Rattle.layout.specs.Layout.{tableMark, kindsAt, totalsAt, clockAt, lastAt, rowsAt, rowWidth, spaceFor, sizeIn, ownIn, capacityIn, objectsIn, countIn, rowsIn}
 use Rattle.rowrules.specs.RowTests.{rowsKept}
 use Rattle.clockrules.specs.ClockTests.{totalKeptAt, lastKept}
 

@@ -1,3 +1,4 @@
+-- `clockrules::each_last_ok` meets its contract: what is noted and the test of the vectors that are left make the whole test.
 use mathlib.Core.Logic.{⊎-elim}
 use Prim.Native.Nat.{_-_}
 use lib.ListN.{length}
@@ -8,9 +9,6 @@ use native.Mathlib.Omega.{arith}
 use borrow.Author.Needs.{needs}
 use Rattle.clockrules.proofs.each_last_ok.Statement.{statement}
 use Rattle.clockrules.proofs.each_last_ok.Tie as tie
-use Rattle.clockrules.proofs.each_last_ok.Reads as reads
-use Rattle.clockrules.proofs.each_last_ok.Lts as lts
-use Rattle.clockrules.proofs.last_ok.Reads as last-ok-reads
 
 abbrev Inv-loop : tie.InvT-loop
 Inv-loop lasts clock own good₀ k₀ at₀ good k at = Passed (lastKept own clock) (length clock) (length clock) lasts good k at
@@ -27,23 +25,11 @@ add-end c = search (end-fits, arith)
 mul-last-ok : tie.Need-mul-last-ok Inv-loop μ-loop
 mul-last-ok c = search (start-fits, arith)
 
-sub-last-ok : tie.Need-sub-last-ok Inv-loop μ-loop
-sub-last-ok c = search needs
-
-part-last-ok-start : tie.Need-part-last-ok-start Inv-loop μ-loop
-part-last-ok-start c = search needs
-
 part-last-ok-end : tie.Need-part-last-ok-end Inv-loop μ-loop
 part-last-ok-end c = search piece-room
 
 last-ok-requires : tie.Need-last-ok-requires Inv-loop μ-loop
 last-ok-requires c κs = (search piece-long, search needs)
-
-add-k : tie.Need-add-k Inv-loop μ-loop
-add-k c = search needs
-
-loop-less : tie.Need-loop-less Inv-loop μ-loop
-loop-less c = search needs
 
 loop-again : tie.Need-loop-again Inv-loop μ-loop
 loop-again c = ⊎-elim (λ w. search (piece-fails, not-true)) (λ w. search (piece-holds, not-false)) (c .if1 .came)
@@ -60,11 +46,11 @@ each-last-ok-spec =
     loop-holds
     add-end
     mul-last-ok
-    sub-last-ok
-    part-last-ok-start
+    (λ c. search needs)
+    (λ c. search needs)
     part-last-ok-end
     last-ok-requires
-    add-k
-    loop-less
+    (λ c. search needs)
+    (λ c. search needs)
     loop-again
     returns)

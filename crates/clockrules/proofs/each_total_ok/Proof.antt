@@ -1,3 +1,4 @@
+-- `clockrules::each_total_ok` meets its contract: what is noted and the test of the totals that are left make the whole test.
 use Rattle.clockrules.proofs.Totals.{total-fails, total-holds}
 use mathlib.Core.Logic.{⊎-elim}
 use Prim.Native.Nat.{_-_}
@@ -9,10 +10,6 @@ use native.Mathlib.Omega.{arith}
 use borrow.Author.Needs.{needs}
 use Rattle.clockrules.proofs.each_total_ok.Statement.{statement}
 use Rattle.clockrules.proofs.each_total_ok.Tie as tie
-use Rattle.clockrules.proofs.each_total_ok.Reads as reads
-use Rattle.clockrules.proofs.each_total_ok.Lts as lts
-use Rattle.clockrules.proofs.code_of.Reads as code-of-reads
-use Rattle.clockrules.proofs.total_ok.Reads as total-ok-reads
 
 abbrev Inv-loop : tie.InvT-loop
 Inv-loop kinds totals bound good₀ k₀ at₀ good k at = Passed (totalKeptAt bound kinds) 2 (length kinds) totals good k at
@@ -26,35 +23,14 @@ loop-holds c = search pass-start
 add-end : tie.Need-add-end Inv-loop μ-loop
 add-end c = search (end-fits, arith)
 
-mul-total-ok : tie.Need-mul-total-ok Inv-loop μ-loop
-mul-total-ok c = search needs
-
-shared-slice-read-total-ok : tie.Need-shared-slice-read-total-ok Inv-loop μ-loop
-shared-slice-read-total-ok c = search needs
-
 mul-code-of : tie.Need-mul-code-of Inv-loop μ-loop
 mul-code-of c = search (start-fits, arith)
-
-sub-code-of : tie.Need-sub-code-of Inv-loop μ-loop
-sub-code-of c = search needs
-
-part-code-of-start : tie.Need-part-code-of-start Inv-loop μ-loop
-part-code-of-start c = search needs
 
 part-code-of-end : tie.Need-part-code-of-end Inv-loop μ-loop
 part-code-of-end c = search piece-room
 
 code-of-requires : tie.Need-code-of-requires Inv-loop μ-loop
 code-of-requires c κs = search piece-long
-
-total-ok-requires : tie.Need-total-ok-requires Inv-loop μ-loop
-total-ok-requires c κs = search needs
-
-add-k : tie.Need-add-k Inv-loop μ-loop
-add-k c = search needs
-
-loop-less : tie.Need-loop-less Inv-loop μ-loop
-loop-less c = search needs
 
 loop-again : tie.Need-loop-again Inv-loop μ-loop
 loop-again c = ⊎-elim (λ w. search (total-fails, not-true)) (λ w. search (total-holds, not-false)) (c .if1 .came)
@@ -70,15 +46,15 @@ each-total-ok-spec =
     μ-loop
     loop-holds
     add-end
-    mul-total-ok
-    shared-slice-read-total-ok
+    (λ c. search needs)
+    (λ c. search needs)
     mul-code-of
-    sub-code-of
-    part-code-of-start
+    (λ c. search needs)
+    (λ c. search needs)
     part-code-of-end
     code-of-requires
-    total-ok-requires
-    add-k
-    loop-less
+    (λ c κs. search needs)
+    (λ c. search needs)
+    (λ c. search needs)
     loop-again
     returns)

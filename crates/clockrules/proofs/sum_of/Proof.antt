@@ -1,3 +1,4 @@
+-- `clockrules::sum_of` meets its contract: what is added and the sum of the entries that are left make the whole sum.
 use Prim.Native.Nat.{_-_}
 use lib.ListN.{length}
 use Rattle.clockrules.proofs.Totals.{Summed, sum-start, sum-fits, sum-more, sum-done, sum-bounded}
@@ -5,9 +6,6 @@ use native.Mathlib.Omega.{arith}
 use borrow.Author.Needs.{needs}
 use Rattle.clockrules.proofs.sum_of.Statement.{statement}
 use Rattle.clockrules.proofs.sum_of.Tie as tie
-use Rattle.clockrules.proofs.sum_of.Reads as reads
-use Rattle.clockrules.proofs.sum_of.Lts as lts
-use Rattle.clockrules.proofs.long.Reads as long-reads
 
 abbrev Inv-loop : tie.InvT-loop
 Inv-loop clock sum₀ i₀ sum i = Summed clock sum i
@@ -18,23 +16,8 @@ abbrev μ-loop : tie.MeasureT-loop
 loop-holds : tie.Need-loop-holds Inv-loop μ-loop
 loop-holds c = search sum-start
 
-mul-long : tie.Need-mul-long Inv-loop μ-loop
-mul-long c = search needs
-
-shared-slice-read-long : tie.Need-shared-slice-read-long Inv-loop μ-loop
-shared-slice-read-long c = search needs
-
-long-requires : tie.Need-long-requires Inv-loop μ-loop
-long-requires c κs = search needs
-
 add-sum : tie.Need-add-sum Inv-loop μ-loop
 add-sum c = search (sum-fits, arith)
-
-add-i : tie.Need-add-i Inv-loop μ-loop
-add-i c = search needs
-
-loop-less : tie.Need-loop-less Inv-loop μ-loop
-loop-less c = search needs
 
 loop-again : tie.Need-loop-again Inv-loop μ-loop
 loop-again c = search (sum-more, arith)
@@ -49,11 +32,11 @@ sum-of-spec =
     Inv-loop
     μ-loop
     loop-holds
-    mul-long
-    shared-slice-read-long
-    long-requires
+    (λ c. search needs)
+    (λ c. search needs)
+    (λ c κs. search needs)
     add-sum
-    add-i
-    loop-less
+    (λ c. search needs)
+    (λ c. search needs)
     loop-again
     returns)

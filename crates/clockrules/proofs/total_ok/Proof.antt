@@ -1,10 +1,8 @@
+-- `clockrules::total_ok` meets its contract: a case for each way out, by the sign of the total and the kind.
 use Rattle.clockrules.proofs.Totals.{total-grown, total-up, total-none, total-negative, total-down}
-use native.Mathlib.Omega.{arith}
 use borrow.Author.Needs.{needs}
 use Rattle.clockrules.proofs.total_ok.Statement.{statement}
 use Rattle.clockrules.proofs.total_ok.Tie as tie
-use Rattle.clockrules.proofs.total_ok.Reads as reads
-use Rattle.clockrules.proofs.total_ok.Lts as lts
 
 returns : tie.Need-returns
 returns c = search total-grown
@@ -18,11 +16,8 @@ returns-3 c = search total-none
 returns-4 : tie.Need-returns-4
 returns-4 c = search total-negative
 
-sub-result : tie.Need-sub-result
-sub-result c = search needs
-
 returns-5 : tie.Need-returns-5
 returns-5 c = search total-down
 
 pub total-ok-spec : {M : Type 1} → statement M
-total-ok-spec = tie.close (tie.spec returns returns-2 returns-3 returns-4 sub-result returns-5)
+total-ok-spec = tie.close (tie.spec returns returns-2 returns-3 returns-4 (λ c. search needs) returns-5)

@@ -1,3 +1,4 @@
+-- `rowrules::each_ok` meets its contract: what is noted and the test of the rows that are left make the whole test.
 use Rattle.rowrules.proofs.Chaining.{each-done}
 use borrow.Author.Tests.{not-true, not-false}
 use mathlib.Core.Logic.{⊎-elim}
@@ -8,9 +9,6 @@ use native.Mathlib.Omega.{arith}
 use borrow.Author.Needs.{needs}
 use Rattle.rowrules.proofs.each_ok.Statement.{statement}
 use Rattle.rowrules.proofs.each_ok.Tie as tie
-use Rattle.rowrules.proofs.each_ok.Reads as reads
-use Rattle.rowrules.proofs.each_ok.Lts as lts
-use Rattle.rowrules.proofs.row_ok.Reads as row-ok-reads
 
 abbrev Inv-loop : tie.InvT-loop
 Inv-loop rows width count kinds clock good₀ k₀ at₀ good k at = Passed (anywhere (rowKept kinds clock)) width count rows good k at
@@ -27,23 +25,11 @@ add-end c = search (end-fits, arith)
 mul-row-ok : tie.Need-mul-row-ok Inv-loop μ-loop
 mul-row-ok c = search (start-fits, arith)
 
-sub-row-ok : tie.Need-sub-row-ok Inv-loop μ-loop
-sub-row-ok c = search needs
-
-part-row-ok-start : tie.Need-part-row-ok-start Inv-loop μ-loop
-part-row-ok-start c = search needs
-
 part-row-ok-end : tie.Need-part-row-ok-end Inv-loop μ-loop
 part-row-ok-end c = search piece-room
 
 row-ok-requires : tie.Need-row-ok-requires Inv-loop μ-loop
 row-ok-requires c κs = search piece-long
-
-add-k : tie.Need-add-k Inv-loop μ-loop
-add-k c = search needs
-
-loop-less : tie.Need-loop-less Inv-loop μ-loop
-loop-less c = search needs
 
 loop-again : tie.Need-loop-again Inv-loop μ-loop
 loop-again c = ⊎-elim (λ w. search (piece-fails, not-true)) (λ w. search (piece-holds, not-false)) (c .if1 .came)
@@ -60,11 +46,11 @@ each-ok-spec =
     loop-holds
     add-end
     mul-row-ok
-    sub-row-ok
-    part-row-ok-start
+    (λ c. search needs)
+    (λ c. search needs)
     part-row-ok-end
     row-ok-requires
-    add-k
-    loop-less
+    (λ c. search needs)
+    (λ c. search needs)
     loop-again
     returns)

@@ -1,3 +1,4 @@
+-- `rowrules::in_order` meets its contract: what is noted and the test of the pairs that are left make the whole test.
 use borrow.Author.Tests.{not-true, not-false}
 use mathlib.Core.Logic.{⊎-elim}
 use Rattle.rowrules.specs.RowTests.{follows}
@@ -6,9 +7,6 @@ use native.Mathlib.Omega.{arith}
 use borrow.Author.Needs.{needs}
 use Rattle.rowrules.proofs.in_order.Statement.{statement}
 use Rattle.rowrules.proofs.in_order.Tie as tie
-use Rattle.rowrules.proofs.in_order.Reads as reads
-use Rattle.rowrules.proofs.in_order.Lts as lts
-use Rattle.rowrules.proofs.may_follow.Reads as may-follow-reads
 
 abbrev Inv-loop : tie.InvT-loop
 Inv-loop rows width count kinds good₀ at₀ more₀ good at more = Chaining (follows kinds) width count rows good at more
@@ -28,38 +26,17 @@ add-next c = search (next-fits, arith)
 add-after : tie.Need-add-after Inv-loop μ-loop
 add-after c = search (next-key-fits, arith)
 
-mul-may-follow : tie.Need-mul-may-follow Inv-loop μ-loop
-mul-may-follow c = search needs
-
-sub-may-follow : tie.Need-sub-may-follow Inv-loop μ-loop
-sub-may-follow c = search needs
-
-part-may-follow-start : tie.Need-part-may-follow-start Inv-loop μ-loop
-part-may-follow-start c = search needs
-
 part-may-follow-end : tie.Need-part-may-follow-end Inv-loop μ-loop
 part-may-follow-end c = search key-room
 
 mul-may-follow-2 : tie.Need-mul-may-follow-2 Inv-loop μ-loop
 mul-may-follow-2 c = search (next-scaled, arith)
 
-sub-may-follow-2 : tie.Need-sub-may-follow-2 Inv-loop μ-loop
-sub-may-follow-2 c = search needs
-
-part-may-follow-start-2 : tie.Need-part-may-follow-start-2 Inv-loop μ-loop
-part-may-follow-start-2 c = search needs
-
 part-may-follow-end-2 : tie.Need-part-may-follow-end-2 Inv-loop μ-loop
 part-may-follow-end-2 c = search next-key-room
 
 may-follow-requires : tie.Need-may-follow-requires Inv-loop μ-loop
 may-follow-requires c κs = (search key-long, search next-key-long)
-
-sub-more : tie.Need-sub-more Inv-loop μ-loop
-sub-more c = search needs
-
-loop-less : tie.Need-loop-less Inv-loop μ-loop
-loop-less c = search needs
 
 loop-again : tie.Need-loop-again Inv-loop μ-loop
 loop-again c = ⊎-elim (λ w. search (chain-fails, not-true)) (λ w. search (chain-holds, not-false)) (c .if1 .came)
@@ -77,16 +54,16 @@ in-order-spec =
     add-end
     add-next
     add-after
-    mul-may-follow
-    sub-may-follow
-    part-may-follow-start
+    (λ c. search needs)
+    (λ c. search needs)
+    (λ c. search needs)
     part-may-follow-end
     mul-may-follow-2
-    sub-may-follow-2
-    part-may-follow-start-2
+    (λ c. search needs)
+    (λ c. search needs)
     part-may-follow-end-2
     may-follow-requires
-    sub-more
-    loop-less
+    (λ c. search needs)
+    (λ c. search needs)
     loop-again
     returns)

@@ -1,10 +1,8 @@
+-- `rowrules::is_storable` meets its contract: a case for each way out, over the seven kinds that keep rows.
 use Rattle.rowrules.proofs.Contents.{stores-no-counter, stores-no-kind, stores-adds, stores-no-other, stores-removes, stores-removes-4, stores-removes-6}
-use native.Mathlib.Omega.{arith}
 use borrow.Author.Needs.{needs}
 use Rattle.rowrules.proofs.is_storable.Statement.{statement}
 use Rattle.rowrules.proofs.is_storable.Tie as tie
-use Rattle.rowrules.proofs.is_storable.Reads as reads
-use Rattle.rowrules.proofs.is_storable.Lts as lts
 
 returns : tie.Need-returns
 returns c = search stores-no-counter
@@ -12,14 +10,8 @@ returns c = search stores-no-counter
 returns-2 : tie.Need-returns-2
 returns-2 c = search stores-no-kind
 
-shared-slice-read-if3 : tie.Need-shared-slice-read-if3
-shared-slice-read-if3 c = search needs
-
 returns-3 : tie.Need-returns-3
 returns-3 c = search stores-adds
-
-shared-slice-read-if4 : tie.Need-shared-slice-read-if4
-shared-slice-read-if4 c = search needs
 
 returns-4 : tie.Need-returns-4
 returns-4 c = search stores-no-other
@@ -39,9 +31,9 @@ is-storable-spec =
     (tie.spec
     returns
     returns-2
-    shared-slice-read-if3
+    (λ c. search needs)
     returns-3
-    shared-slice-read-if4
+    (λ c. search needs)
     returns-4
     returns-5
     returns-6

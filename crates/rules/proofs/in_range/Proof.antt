@@ -1,10 +1,7 @@
+-- `rules::in_range` meets its contract: below the least, or compared with the greatest.
 use Rattle.rules.proofs.Heading.{range-below, range-from}
-use native.Mathlib.Omega.{arith}
-use borrow.Author.Needs.{needs}
 use Rattle.rules.proofs.in_range.Statement.{statement}
 use Rattle.rules.proofs.in_range.Tie as tie
-use Rattle.rules.proofs.in_range.Reads as reads
-use Rattle.rules.proofs.in_range.Lts as lts
 
 returns : tie.Need-returns
 returns c = search range-below

@@ -1,13 +1,8 @@
+-- `rules::rows_at` meets its contract: the square of at most 16 fits.
 use Rattle.rules.proofs.Heading.{square-fits, rows-place-fits, rows-place}
-use native.Mathlib.Omega.{arith}
 use borrow.Author.Needs.{needs}
 use Rattle.rules.proofs.rows_at.Statement.{statement}
 use Rattle.rules.proofs.rows_at.Tie as tie
-use Rattle.rules.proofs.rows_at.Reads as reads
-use Rattle.rules.proofs.rows_at.Lts as lts
-
-add-result : tie.Need-add-result
-add-result c = search needs
 
 mul-result : tie.Need-mul-result
 mul-result c = search square-fits
@@ -19,4 +14,4 @@ returns : tie.Need-returns
 returns c = (search needs, search rows-place)
 
 pub rows-at-spec : {M : Type 1} → statement M
-rows-at-spec = tie.close (tie.spec add-result mul-result add-result-2 returns)
+rows-at-spec = tie.close (tie.spec (λ c. search needs) mul-result add-result-2 returns)

@@ -1,15 +1,9 @@
+-- `rules::sizes_ok` meets its contract: each way out is one part of the test.
 use borrow.Author.Tests.{not-true, not-false}
 use Rattle.rules.proofs.Heading.{sizes-size, sizes-own, sizes-capacity, sizes-objects, sizes-count}
-use native.Mathlib.Omega.{arith}
 use borrow.Author.Needs.{needs}
 use Rattle.rules.proofs.sizes_ok.Statement.{statement}
 use Rattle.rules.proofs.sizes_ok.Tie as tie
-use Rattle.rules.proofs.sizes_ok.Reads as reads
-use Rattle.rules.proofs.sizes_ok.Lts as lts
-use Rattle.rules.proofs.in_range.Reads as in-range-reads
-
-in-range-requires : tie.Need-in-range-requires
-in-range-requires c κs = search needs
 
 returns : tie.Need-returns
 returns c = search (sizes-size, not-true)
@@ -17,14 +11,8 @@ returns c = search (sizes-size, not-true)
 returns-2 : tie.Need-returns-2
 returns-2 c = search (sizes-own, not-false)
 
-in-range-requires-2 : tie.Need-in-range-requires-2
-in-range-requires-2 c κs = search needs
-
 returns-3 : tie.Need-returns-3
 returns-3 c = search (sizes-capacity, not-true, not-false)
-
-in-range-requires-3 : tie.Need-in-range-requires-3
-in-range-requires-3 c κs = search needs
 
 returns-4 : tie.Need-returns-4
 returns-4 c = search (sizes-objects, not-true, not-false)
@@ -36,11 +24,11 @@ pub sizes-ok-spec : {M : Type 1} → statement M
 sizes-ok-spec =
     tie.close
     (tie.spec
-    in-range-requires
+    (λ c κs. search needs)
     returns
     returns-2
-    in-range-requires-2
+    (λ c κs. search needs)
     returns-3
-    in-range-requires-3
+    (λ c κs. search needs)
     returns-4
     returns-5)

@@ -1,17 +1,9 @@
+-- `rules::space_for` meets its contract: the area of at most 512 rows fits.
 use Rattle.rules.proofs.Heading.{area-fits, space-fits, space-most}
 use native.Mathlib.Omega.{arith}
 use borrow.Author.Needs.{needs}
 use Rattle.rules.proofs.space_for.Statement.{statement}
 use Rattle.rules.proofs.space_for.Tie as tie
-use Rattle.rules.proofs.space_for.Reads as reads
-use Rattle.rules.proofs.space_for.Lts as lts
-use Rattle.rules.proofs.rows_at.Reads as rows-at-reads
-
-rows-at-requires : tie.Need-rows-at-requires
-rows-at-requires c κs = search needs
-
-add-result : tie.Need-add-result
-add-result c = search needs
 
 mul-result : tie.Need-mul-result
 mul-result c = search (area-fits, arith)
@@ -23,4 +15,4 @@ returns : tie.Need-returns
 returns c = (search needs, search space-most)
 
 pub space-for-spec : {M : Type 1} → statement M
-space-for-spec = tie.close (tie.spec rows-at-requires add-result mul-result add-result-2 returns)
+space-for-spec = tie.close (tie.spec (λ c κs. search needs) (λ c. search needs) mul-result add-result-2 returns)
