@@ -15,7 +15,12 @@ part-all-zero-end : tie.Need-part-all-zero-end
 part-all-zero-end c = let a = c .before .before .before .before .before .before .before .before .before in let w = c .before .before .before .before .before .before .wide in unused-end (a .args .s .now) (a .pre) (w .result) (w .ensures .0) (c .before .wide3 .result) (c .space-for2 .result) (c .before .wide3 .ensures .0) (c .space-for2 .ensures .0)
 
 returns : tie.Need-returns
-returns c = search unused-told
+returns c =
+    let two = c .before .before in
+    let one = two .before .before .before in
+    let size = one .before .before .before in
+    let a = size .before .before .before in
+    unused-told (a .args .s .now) (a .pre) (size .wide .result) (size .wide .ensures .0) (one .before .wide2 .result) (two .before .wide3 .result) (one .space-for .result) (two .space-for2 .result) (one .before .wide2 .ensures .0) (two .before .wide3 .ensures .0) (one .space-for .ensures .0) (two .space-for2 .ensures .0) (c .all-zero .result) (c .all-zero .ensures)
 
 pub unused-ok-spec : {M : Type 1} → statement M
 unused-ok-spec =
