@@ -63,7 +63,7 @@ rows-kept : (n : ℕ) (l : List (List ℕ)) → Each (Spelt n) l → Each (λ (w
 rows-kept n [] h = tt
 rows-kept n (ws ∷ l) h = (row-written n ws (h .0), rows-kept n l (h .1))
 
-seven : (s : List ℕ) → 7 ≤ length s → take 7 s ≡ getD s 0 0 ∷ getD s 1 0 ∷ getD s 2 0 ∷ getD s 3 0 ∷ getD s 4 0 ∷ getD s 5 0 ∷ getD s 6 0 ∷ []
+pub seven : (s : List ℕ) → 7 ≤ length s → take 7 s ≡ getD s 0 0 ∷ getD s 1 0 ∷ getD s 2 0 ∷ getD s 3 0 ∷ getD s 4 0 ∷ getD s 5 0 ∷ getD s 6 0 ∷ []
 seven (a ∷ b ∷ c ∷ d ∷ e ∷ f ∷ g ∷ s) h = refl
 seven [] h = absurd (omega arith)
 seven (a ∷ []) h = absurd (omega arith)

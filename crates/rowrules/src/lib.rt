@@ -1,0 +1,227 @@
+// The table rules of rows in lent words: each row by itself, and with the one before it.
+ghost use mathlib.Core.Path.{_≡_};
+ghost use Prim.Native.Nat.{_+_, _*_, _≤_};
+ghost use lib.ListN.{length, getD};
+ghost use Rattle.meaning.specs.Tests.{every};
+ghost use Rattle.meaning.specs.Table.{storable};
+ghost use Rattle.layout.specs.Words.{allZero, pieces};
+ghost use Rattle.layout.specs.Layout.{rowOf, rowWidth};
+ghost use Rattle.placing.specs.Placing.{keyWords};
+ghost use Rattle.rowrules.specs.RowTests.{chained, contentKept, follows, numberKept, rowKept, rowsKept, unsettledKept};
+
+const ADDS: u32 = 1;
+
+const REMOVES: u32 = 2;
+
+const NO_KIND: u32 = 0;
+
+const GROW_SET: u32 = 3;
+
+const TWO_PHASE_SET: u32 = 4;
+
+const ENABLE_WINS_FLAG: u32 = 5;
+
+const DISABLE_WINS_FLAG: u32 = 6;
+
+const REMOVE_WINS_SET: u32 = 9;
+
+const UNSETTLED: u32 = 1;
+
+// Where the words of a row stand.
+const OBJECT_AT: usize = 0;
+
+const HIGH_AT: usize = 1;
+
+const LOW_AT: usize = 2;
+
+const CODE_AT: usize = 3;
+
+const UNSETTLED_AT: usize = 4;
+
+const TAG_AT: usize = 5;
+
+const NUMBER_AT: usize = 6;
+
+const VECTOR_AT: usize = 7;
+
+// Whether all words are 0; it notes a fault and never leaves early, so that it runs over many words at a time.
+pub fn all_zero(words: &[u32]) -> bool
+    ensures { λ r. ⌜ r ≡ allZero (now (words .entry)) ⌝ }
+{
+    let mut good = true;
+    let mut i = 0;
+    while i < words.len() {
+        if words[i] != 0 {
+            good = false;
+        }
+        i += 1;
+    }
+    good
+}
+
+// The kind of an object, or none where it is not declared.
+fn kind_of(kinds: &[u32], object: u32) -> u32
+    ensures { λ r. ⌜ r ≡ getD (now (kinds .entry)) object 0 ⌝ }
+{
+    let at = tags::wide(object);
+    if at < kinds.len() {
+        return kinds[at];
+    }
+    NO_KIND
+}
+
+// Whether a row of this kind may have this code: adds in all that keep rows, removes where they bar or stand.
+fn is_storable(kind: u32, row: &[u32]) -> bool
+    requires { ⌜ keyWords ≤ length (now row) ⌝ }
+    ensures { λ r. ⌜ r ≡ storable kind (rowOf (now (row .entry)) .operation) ⌝ }
+{
+    if kind < GROW_SET {
+        return false;
+    }
+    if REMOVE_WINS_SET < kind {
+        return false;
+    }
+    if row[CODE_AT] == ADDS {
+        return true;
+    }
+    if row[CODE_AT] != REMOVES {
+        return false;
+    }
+    if kind == TWO_PHASE_SET {
+        return true;
+    }
+    if kind == DISABLE_WINS_FLAG {
+        return true;
+    }
+    kind == REMOVE_WINS_SET
+}
+
+// Whether a row of this kind may have this code and this value.
+fn content_ok(kind: u32, row: &[u32]) -> bool
+    requires { ⌜ keyWords ≤ length (now row) ⌝ }
+    ensures { λ r. ⌜ r ≡ contentKept kind (rowOf (now (row .entry)) .operation) ⌝ }
+{
+    if is_storable(kind, row) {
+        if row[HIGH_AT] != 0 {
+            return false;
+        }
+        if kind == ENABLE_WINS_FLAG {
+            return row[LOW_AT] == 0;
+        }
+        if kind == DISABLE_WINS_FLAG {
+            return row[LOW_AT] == 0;
+        }
+        return true;
+    }
+    false
+}
+
+// Whether the number is the vector's entry at the sender.
+fn number_ok(number: u32, sender: u32, v: &[u32]) -> bool
+    ensures { λ r. ⌜ r ≡ numberKept number sender (now (v .entry)) ⌝ }
+{
+    let at = tags::wide(sender);
+    if v.len() <= at {
+        return false;
+    }
+    if number < 1 {
+        return false;
+    }
+    number == v[at]
+}
+
+// Whether an unsettled row has a tag that the clock covers.
+fn unsettled_ok(row: &[u32], clock: &[u32]) -> bool
+    requires { ⌜ length (now row) ≡ rowWidth (length (now clock)) ⌝ }
+    ensures { λ r. ⌜ r ≡ unsettledKept (now (clock .entry)) (now (row .entry)) ⌝ }
+{
+    if row[UNSETTLED_AT] != UNSETTLED {
+        return false;
+    }
+    if tags::at_most(&row[VECTOR_AT..], clock) {
+        return number_ok(row[NUMBER_AT], row[TAG_AT], &row[VECTOR_AT..]);
+    }
+    false
+}
+
+// Whether a row keeps the rules that ask nothing of other rows.
+fn row_ok(row: &[u32], kinds: &[u32], clock: &[u32]) -> bool
+    requires { ⌜ length (now row) ≡ rowWidth (length (now clock)) ⌝ }
+    ensures { λ r. ⌜ r ≡ rowKept (now (kinds .entry)) (now (clock .entry)) (now (row .entry)) ⌝ }
+{
+    let kind = kind_of(kinds, row[OBJECT_AT]);
+    if content_ok(kind, row) {
+        if row[UNSETTLED_AT] == 0 {
+            return all_zero(&row[TAG_AT..]);
+        }
+        if kind <= TWO_PHASE_SET {
+            return false;
+        }
+        return unsettled_ok(row, clock);
+    }
+    false
+}
+
+// Whether every row keeps the rules that ask nothing of other rows, with a fault noted as in all_zero.
+fn each_ok(rows: &[u32], width: usize, count: usize, kinds: &[u32], clock: &[u32]) -> bool
+    requires { ⌜ (count * width ≤ length (now rows)) × (width ≡ rowWidth (length (now clock))) ⌝ }
+    ensures { λ r. ⌜ r ≡ every (rowKept (now (kinds .entry)) (now (clock .entry))) (pieces width count (now (rows .entry))) ⌝ }
+{
+    let mut good = true;
+    let mut k = 0;
+    let mut at = 0;
+    while k < count {
+        let end = at + width;
+        if !row_ok(&rows[at..end], kinds, clock) {
+            good = false;
+        }
+        k += 1;
+        at = end;
+    }
+    good
+}
+
+// Whether a row may come next after another, by the first seven words of each.
+fn may_follow(before: &[u32], row: &[u32], kinds: &[u32]) -> bool
+    requires { ⌜ (length (now before) ≡ keyWords) × (length (now row) ≡ keyWords) ⌝ }
+    ensures { λ r. ⌜ r ≡ follows (now (kinds .entry)) (now (before .entry)) (now (row .entry)) ⌝ }
+{
+    if kind_of(kinds, row[OBJECT_AT]) == TWO_PHASE_SET {
+        if tags::same(&before[OBJECT_AT..CODE_AT], &row[OBJECT_AT..CODE_AT]) {
+            return false;
+        }
+    }
+    placing::lower(before, row)
+}
+
+// Whether each row may come next after the one before it.
+fn in_order(rows: &[u32], width: usize, count: usize, kinds: &[u32]) -> bool
+    requires { ⌜ (count * width ≤ length (now rows)) × (keyWords ≤ width) ⌝ }
+    ensures { λ r. ⌜ r ≡ chained (follows (now (kinds .entry))) (pieces width count (now (rows .entry))) ⌝ }
+{
+    let mut good = true;
+    let mut at = 0;
+    let mut more = count;
+    while 1 < more {
+        let end = at + VECTOR_AT;
+        let next = at + width;
+        let after = next + VECTOR_AT;
+        if !may_follow(&rows[at..end], &rows[next..after], kinds) {
+            good = false;
+        }
+        more -= 1;
+        at = next;
+    }
+    good
+}
+
+// Whether the rows keep all the rules of rows.
+pub fn rows_ok(rows: &[u32], width: usize, count: usize, kinds: &[u32], clock: &[u32]) -> bool
+    requires { ⌜ (count * width ≤ length (now rows)) × (width ≡ rowWidth (length (now clock))) ⌝ }
+    ensures { λ r. ⌜ r ≡ rowsKept (now (kinds .entry)) (now (clock .entry)) (pieces width count (now (rows .entry))) ⌝ }
+{
+    if each_ok(rows, width, count, kinds, clock) {
+        return in_order(rows, width, count, kinds);
+    }
+    false
+}

@@ -1,0 +1,3 @@
+pub mod Heading
+pub mod Parts
+pub mod Holding

@@ -1,0 +1,241 @@
+// The one test that every outside call makes: whether lent words hold a table.
+ghost use mathlib.Core.Path.{_≡_};
+ghost use Prim.Native.Nat.{_≤_};
+ghost use lib.Dec.{leb};
+ghost use lib.ListN.{length};
+ghost use Rattle.meaning.specs.Tests.{between, every};
+ghost use Rattle.layout.specs.Layout.{capacityIn, holdsTable, rowsAt, rowsIn, sizeIn, spaceFor};
+ghost use Rattle.rowrules.specs.RowTests.{rowsKept};
+ghost use Rattle.rules.specs.TableTests.{clockIn, headKept, Headed, kindsIn, kindsKept, lastsKept, mostBeforeRows, mostWords, partsKept, sizesKept, totalsKept, unusedKept};
+
+const MARK: u32 = 1919904876;
+
+// What the seventh word holds when no load is under way.
+const IDLE: u32 = 0;
+
+const GREATEST_SIZE: u32 = 16;
+
+const GREATEST_CAPACITY: u32 = 512;
+
+const MOST_OBJECTS: u32 = 32;
+
+const GREATEST_KIND: u32 = 9;
+
+// Where the numbers of the head stand.
+const MARK_AT: usize = 0;
+
+const SIZE_AT: usize = 1;
+
+const OWN_AT: usize = 2;
+
+const CAPACITY_AT: usize = 3;
+
+const OBJECTS_AT: usize = 4;
+
+const COUNT_AT: usize = 5;
+
+const LOADING_AT: usize = 6;
+
+// Where the parts of a table stand.
+const KINDS_AT: usize = 7;
+
+const TOTALS_AT: usize = 39;
+
+const CLOCK_AT: usize = 103;
+
+// The words of a row ahead of its vector.
+const KEY: usize = 7;
+
+// Whether a number is from the least to the greatest.
+fn in_range(number: u32, least: u32, greatest: u32) -> bool
+    ensures { λ r. ⌜ r ≡ between least greatest number ⌝ }
+{
+    if number < least {
+        return false;
+    }
+    number <= greatest
+}
+
+// Whether every word is from the least to the greatest.
+fn all_in_range(words: &[u32], least: u32, greatest: u32) -> bool
+    ensures { λ r. ⌜ r ≡ every (between least greatest) (now (words .entry)) ⌝ }
+{
+    let mut good = true;
+    let mut i = 0;
+    while i < words.len() {
+        if !in_range(words[i], least, greatest) {
+            good = false;
+        }
+        i += 1;
+    }
+    good
+}
+
+// Whether the head's numbers are in range.
+fn sizes_ok(size: u32, own: u32, capacity: u32, objects: u32, count: u32) -> bool
+    ensures { λ r. ⌜ r ≡ sizesKept size own capacity objects count ⌝ }
+{
+    if !in_range(size, 1, GREATEST_SIZE) {
+        return false;
+    }
+    if size <= own {
+        return false;
+    }
+    if !in_range(capacity, 1, GREATEST_CAPACITY) {
+        return false;
+    }
+    if !in_range(objects, 1, MOST_OBJECTS) {
+        return false;
+    }
+    count <= capacity
+}
+
+// Where the rows of a group of this size start.
+fn rows_at(size: usize) -> usize
+    requires { ⌜ size ≤ 16 ⌝ }
+    ensures { λ r. ⌜ (r ≡ rowsAt size) × (r ≤ mostBeforeRows) ⌝ }
+{
+    CLOCK_AT + size + size * size
+}
+
+// How many words a table needs.
+fn space_for(size: usize, capacity: usize) -> usize
+    requires { ⌜ (size ≤ 16) × (capacity ≤ 512) ⌝ }
+    ensures { λ r. ⌜ (r ≡ spaceFor size capacity) × (r ≤ mostWords) ⌝ }
+{
+    rows_at(size) + capacity * (KEY + size)
+}
+
+// Whether the words are enough for the table that the head describes.
+fn has_room(s: &[u32]) -> bool
+    requires { ⌜ (103 ≤ length (now s)) × (sizeIn (now s) ≤ 16) × (capacityIn (now s) ≤ 512) ⌝ }
+    ensures { λ r. ⌜ r ≡ leb (spaceFor (sizeIn (now (s .entry))) (capacityIn (now (s .entry)))) (length (now (s .entry))) ⌝ }
+{
+    space_for(tags::wide(s[SIZE_AT]), tags::wide(s[CAPACITY_AT])) <= s.len()
+}
+
+// Whether the head is a table's.
+fn head_ok(s: &[u32]) -> bool
+    requires { ⌜ 103 ≤ length (now s) ⌝ }
+    ensures { λ r. ⌜ r ≡ headKept (now (s .entry)) ⌝ }
+{
+    if s[MARK_AT] != MARK {
+        return false;
+    }
+    if s[LOADING_AT] != IDLE {
+        return false;
+    }
+    if sizes_ok(
+        s[SIZE_AT],
+        s[OWN_AT],
+        s[CAPACITY_AT],
+        s[OBJECTS_AT],
+        s[COUNT_AT],
+    ) {
+        return has_room(s);
+    }
+    false
+}
+
+// Whether the kinds are known ones, with zeros after them.
+fn kinds_ok(s: &[u32]) -> bool
+    requires { ⌜ Headed (now s) ⌝ }
+    ensures { λ r. ⌜ r ≡ kindsKept (now (s .entry)) ⌝ }
+{
+    let end = KINDS_AT + tags::wide(s[OBJECTS_AT]);
+    if all_in_range(&s[KINDS_AT..end], 1, GREATEST_KIND) {
+        return rowrules::all_zero(&s[end..TOTALS_AT]);
+    }
+    false
+}
+
+// Whether the totals are within the bound that the clock sets, with zeros after them.
+fn totals_ok(s: &[u32]) -> bool
+    requires { ⌜ Headed (now s) ⌝ }
+    ensures { λ r. ⌜ r ≡ totalsKept (now (s .entry)) ⌝ }
+{
+    let objects = tags::wide(s[OBJECTS_AT]);
+    let kinds_end = KINDS_AT + objects;
+    let totals_end = TOTALS_AT + objects * clockrules::TOTAL_WORDS;
+    let clock_end = CLOCK_AT + tags::wide(s[SIZE_AT]);
+    let bound = clockrules::total_bound(&s[CLOCK_AT..clock_end]);
+    if clockrules::each_total_ok(&s[KINDS_AT..kinds_end], &s[TOTALS_AT..], bound) {
+        return rowrules::all_zero(&s[totals_end..CLOCK_AT]);
+    }
+    false
+}
+
+// Whether the vectors of the last frames accepted are what the clock allows.
+fn lasts_ok(s: &[u32]) -> bool
+    requires { ⌜ Headed (now s) ⌝ }
+    ensures { λ r. ⌜ r ≡ lastsKept (now (s .entry)) ⌝ }
+{
+    let clock_end = CLOCK_AT + tags::wide(s[SIZE_AT]);
+    clockrules::each_last_ok(
+        &s[clock_end..],
+        &s[CLOCK_AT..clock_end],
+        tags::wide(s[OWN_AT]),
+    )
+}
+
+// Whether the rows keep their rules.
+fn rows_kept(s: &[u32]) -> bool
+    requires { ⌜ Headed (now s) ⌝ }
+    ensures { λ r. ⌜ r ≡ rowsKept (kindsIn (now (s .entry))) (clockIn (now (s .entry))) (rowsIn (now (s .entry))) ⌝ }
+{
+    let size = tags::wide(s[SIZE_AT]);
+    let kinds_end = KINDS_AT + tags::wide(s[OBJECTS_AT]);
+    let clock_end = CLOCK_AT + size;
+    let start = rows_at(size);
+    rowrules::rows_ok(
+        &s[start..],
+        KEY + size,
+        tags::wide(s[COUNT_AT]),
+        &s[KINDS_AT..kinds_end],
+        &s[CLOCK_AT..clock_end],
+    )
+}
+
+// Whether the words from the last row up to the end of the capacity are 0.
+fn unused_ok(s: &[u32]) -> bool
+    requires { ⌜ Headed (now s) ⌝ }
+    ensures { λ r. ⌜ r ≡ unusedKept (now (s .entry)) ⌝ }
+{
+    let size = tags::wide(s[SIZE_AT]);
+    let start = space_for(size, tags::wide(s[COUNT_AT]));
+    let end = space_for(size, tags::wide(s[CAPACITY_AT]));
+    rowrules::all_zero(&s[start..end])
+}
+
+// Whether all that stands behind the head keeps the rules.
+fn parts_ok(s: &[u32]) -> bool
+    requires { ⌜ Headed (now s) ⌝ }
+    ensures { λ r. ⌜ r ≡ partsKept (now (s .entry)) ⌝ }
+{
+    if !kinds_ok(s) {
+        return false;
+    }
+    if !totals_ok(s) {
+        return false;
+    }
+    if !lasts_ok(s) {
+        return false;
+    }
+    if !rows_kept(s) {
+        return false;
+    }
+    unused_ok(s)
+}
+
+// Whether the words hold a table by the table rules, whatever they are and however many.
+pub fn is_table(s: &[u32]) -> bool
+    ensures { λ r. ⌜ r ≡ holdsTable (now (s .entry)) ⌝ }
+{
+    if s.len() < CLOCK_AT {
+        return false;
+    }
+    if head_ok(s) {
+        return parts_ok(s);
+    }
+    false
+}
