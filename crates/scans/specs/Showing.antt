@@ -31,10 +31,6 @@ unfoldable pub beforeShown : ℕ → List Row → ℕ
 beforeShown o [] = 0
 beforeShown o (row ∷ rows) = cond (shows o row rows) 0 (suc (beforeShown o rows))
 
--- A row's words before its vector.
-abbrev pub keyWords : ℕ
-keyWords = 7
-
 -- The rows at two places of the words begin with the same object and the same two words of a value.
 unfoldable pub sameKey : List ℕ → ℕ → ℕ → Bool
 sameKey words at next =

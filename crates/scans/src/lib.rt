@@ -6,7 +6,8 @@ ghost use Prim.Native.Nat.{_+_, _-_, _*_, _<_, _≤_};
 ghost use lib.ListN.{length, drop, take};
 ghost use Rattle.layout.specs.Words.{pieces};
 ghost use Rattle.layout.specs.Layout.{rowOf};
-ghost use Rattle.scans.specs.Showing.{beforeShown, countShown, keyWords, sameKey, shows};
+ghost use Rattle.placing.specs.Placing.{keyWords};
+ghost use Rattle.scans.specs.Showing.{beforeShown, countShown, sameKey, shows};
 
 const ADDS: u32 = 1;
 
