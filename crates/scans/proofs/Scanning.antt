@@ -1,7 +1,7 @@
 -- What the scans read, in the words of the meaning.
 use Prim.Native.Nat.{ℕ, zero, suc, _+_, _-_, _*_, _≤_, _<_}
 use mathlib.Core.Path.{_≡_, refl, sym, ap, _∙_, subst}
-use mathlib.Core.Bool.{Bool, true, false, not, _&&_, cond}
+use mathlib.Core.Bool.{Bool, true, false, not, _&&_, _||_, cond}
 use mathlib.Core.List.{List, [], _∷_, map}
 use native.Mathlib.Nat.{suc-mul}
 use native.Mathlib.Omega.{arith}
@@ -14,10 +14,11 @@ use lib.Seq.{getD-take, getD-drop, drop-drop}
 use Rattle.meaning.specs.Meaning.{on, addOf}
 use Rattle.meaning.specs.Rows.{Row}
 use Rattle.meaning.specs.Arrival.{sameValue}
-use Rattle.meaning.proofs.Tests.{iff, and-left, and-right}
+use Rattle.meaning.proofs.Tests.{iff, and-left, and-right, and-true}
+use Rattle.meaning.proofs.Steps.{and-false}
 use Rattle.layout.specs.Words.{pieces, ofTwoWords}
 use Rattle.layout.specs.Layout.{rowOf}
-use Rattle.scans.specs.Showing.{followed, shows, beforeShown, countShown, sameKey}
+use Rattle.scans.specs.Showing.{followed, shows, showsValue, valueShown, beforeShown, countShown, sameKey}
 
 -- a word of the row at a place
 word-at : (s : List ℕ) (w at i : ℕ) → i < w → getD (take w (drop at s)) i 0 ≡ getD s (at + i) 0
@@ -84,6 +85,24 @@ module _ (s : List ℕ) (w at more o : ℕ) (room : at + more * w ≤ length s) 
       none true = refl
       none false = refl
 
+  value-is : here .operation .value ≡ ofTwoWords (getD s (at + 1) 0) (getD s (at + 2) 0)
+  value-is = rw (word-at s w at 1 (omega arith), word-at s w at 2 (omega arith)) refl
+
+  module _ (v : ℕ) (small : Fits w32 v) where
+    other-value : (here .operation .value ≡ v → ⊥) → false ≡ showsValue o v here behind
+    unfolding showsValue
+    other-value h = rw (ne-eqb (here .operation .value) v h) (sym (and-false (shows o here behind)))
+
+    pub too-high : (getD s (at + 1) 0 ≡ 0 → ⊥) → false ≡ showsValue o v here behind
+    too-high h = other-value (λ e. let k = sym value-is ∙ e in h (omega (arith, k, small)))
+
+    pub other-low : getD s (at + 1) 0 ≡ 0 → (getD s (at + 2) 0 ≡ v → ⊥) → false ≡ showsValue o v here behind
+    other-low z h = other-value (λ e. let k = sym value-is ∙ e in h (omega (arith, k, z)))
+
+    pub that-value : getD s (at + 1) 0 ≡ 0 → getD s (at + 2) 0 ≡ v → (r : Bool) → r ≡ shows o here behind → r ≡ showsValue o v here behind
+    unfolding showsValue
+    that-value z l r e = let k : here .operation .value ≡ v = (let q = value-is in omega (arith, q, z, l)) in rw (eq-eqb (here .operation .value) v k) (e ∙ sym (and-true (shows o here behind)))
+
   module _ (own : getD s at 0 ≡ o) (add : getD s (at + 3) 0 ≡ 1) where
     by-next : shows o here behind ≡ not (followed here behind)
     unfolding shows addOf on
@@ -117,6 +136,24 @@ module _ (s : List ℕ) (w at more o : ℕ) (room : at + more * w ≤ length s) 
       unfolding sameKey
       by-key r e = e ∙ rw own (sym decided)
 
+-- Where a walk stands: so many words behind, so many rows ahead.
+module _ (s : List ℕ) (w count at more : ℕ) (size : at + more * w ≡ count * w) where
+  walk-room : count * w ≤ length s → at + more * w ≤ length s
+  walk-room room = omega (arith, size)
+
+  module _ (h : 0 < more) where
+    one : more ≡ suc (more - 1)
+    one = omega arith
+
+    walk-on : at + w + (more - 1) * w ≡ count * w
+    walk-on = omega (arith, rw one at size, suc-mul (more - 1) w)
+
+    walk-first : count * w ≤ length s → 7 ≤ w → at + 7 ≤ length s
+    walk-first room wide = omega (arith, walk-on)
+
+    walk-fits : count * w ≤ length s → length s * 4 < 9223372036854775808 → Fits w64 (at + w)
+    walk-fits room b = omega (arith, walk-on)
+
 -- Passing the rows: so many words and rows lie behind, and what is asked of all is what was found and what is asked of the rest.
 pub record Passing (s : List ℕ) (w count : ℕ) (asked : List Row → ℕ) (at more found : ℕ) : Type 0 where
   pub size : at + more * w ≡ count * w
@@ -131,23 +168,17 @@ module _ (s : List ℕ) (w count : ℕ) (asked : List Row → ℕ) (at more foun
   all-passed h none = let z : more ≡ 0 = omega arith in sym (rw z at P .number ∙ ap (λ (k : ℕ). found + k) none ∙ omega arith)
 
   pub passing-room : count * w ≤ length s → at + more * w ≤ length s
-  passing-room room = omega (arith, P .size)
+  passing-room = walk-room s w count at more (P .size)
 
   module _ (h : 0 < more) where
-    one : more ≡ suc (more - 1)
-    one = omega arith
-
-    next-size : at + w + (more - 1) * w ≡ count * w
-    next-size = omega (arith, rw one at P .size, suc-mul (more - 1) w)
-
     pub first-room : count * w ≤ length s → 7 ≤ w → at + 7 ≤ length s
-    first-room room wide = omega (arith, next-size)
+    first-room = walk-first s w count at more (P .size) h
 
     pub next-fits : count * w ≤ length s → length s * 4 < 9223372036854775808 → Fits w64 (at + w)
-    next-fits room b = omega (arith, next-size)
+    next-fits = walk-fits s w count at more (P .size) h
 
     next-passing : (n : ℕ) → n ≤ 1 → asked (map rowOf (pieces w more (drop at s))) ≡ n + asked (map rowOf (pieces w (more - 1) (drop (at + w) s))) → Passing s w count asked (at + w) (more - 1) (found + n)
-    next-passing n l e = record { size = next-size; within = omega (arith, P .within); number = P .number ∙ ap (λ (k : ℕ). found + k) e ∙ omega arith }
+    next-passing n l e = record { size = walk-on s w count at more (P .size) h; within = omega (arith, P .within); number = P .number ∙ ap (λ (k : ℕ). found + k) e ∙ omega arith }
 
 -- the first row ahead, shown or not
 module _ (s : List ℕ) (w o at more : ℕ) (h : 0 < more) (r : Bool) (e : r ≡ shows o (rowOf (take w (drop at s))) (map rowOf (pieces w (more - 1) (drop (at + w) s)))) where
@@ -195,3 +226,37 @@ module _ (s : List ℕ) (w count o at more found : ℕ) (h : more ≤ 0) where
   pub counting-done : Passing s w count (countShown o) at more found → found ≡ countShown o (map rowOf (pieces w count s))
   unfolding countShown
   counting-done P = all-passed s w count (countShown o) at more found P h refl
+
+-- Seeking a value: it is shown in all the rows if it is in the rest.
+pub record Seeking (s : List ℕ) (w count o v at more : ℕ) : Type 0 where
+  pub size : at + more * w ≡ count * w
+  pub same-answer : valueShown o v (map rowOf (pieces w count s)) ≡ valueShown o v (map rowOf (pieces w more (drop at s)))
+
+pub seeking-start : (s : List ℕ) (w count o v : ℕ) → Seeking s w count o v 0 count
+seeking-start s w count o v = record { size = omega arith; same-answer = refl }
+
+module _ (s : List ℕ) (w count o v at more : ℕ) (K : Seeking s w count o v at more) where
+  pub seeking-room : count * w ≤ length s → at + more * w ≤ length s
+  seeking-room = walk-room s w count at more (K .size)
+
+  pub seeking-done : more ≤ 0 → false ≡ valueShown o v (map rowOf (pieces w count s))
+  unfolding valueShown
+  seeking-done h = let z : more ≡ 0 = omega arith in sym (rw z at K .same-answer)
+
+  module _ (h : 0 < more) where
+    pub seek-first-room : count * w ≤ length s → 7 ≤ w → at + 7 ≤ length s
+    seek-first-room = walk-first s w count at more (K .size) h
+
+    pub seek-fits : count * w ≤ length s → length s * 4 < 9223372036854775808 → Fits w64 (at + w)
+    seek-fits = walk-fits s w count at more (K .size) h
+
+    value-ahead : (m : ℕ) → 0 < m → (b : Bool) → b ≡ showsValue o v (rowOf (take w (drop at s))) (map rowOf (pieces w (m - 1) (drop (at + w) s))) → valueShown o v (map rowOf (pieces w m (drop at s))) ≡ (b || valueShown o v (map rowOf (pieces w (m - 1) (drop (at + w) s))))
+    unfolding valueShown
+    value-ahead zero k b e = absurd (omega arith)
+    value-ahead (suc m) k b e = let p : suc m - 1 ≡ m = omega arith in rw (drop-drop w at s) (rw p (rw (sym (rw p at e)) refl))
+
+    pub value-found : (r : Bool) → r ≡ showsValue o v (rowOf (take w (drop at s))) (map rowOf (pieces w (more - 1) (drop (at + w) s))) → r ≡ true → true ≡ valueShown o v (map rowOf (pieces w count s))
+    value-found r e t = sym (K .same-answer ∙ value-ahead more h true (sym t ∙ e))
+
+    pub seeking-next : (r : Bool) → r ≡ showsValue o v (rowOf (take w (drop at s))) (map rowOf (pieces w (more - 1) (drop (at + w) s))) → r ≡ false → Seeking s w count o v (at + w) (more - 1)
+    seeking-next r e t = record { size = walk-on s w count at more (K .size) h; same-answer = K .same-answer ∙ value-ahead more h false (sym t ∙ e) }

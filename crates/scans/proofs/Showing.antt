@@ -13,13 +13,13 @@ use Rattle.meaning.specs.Operations.{Operation, numberOf}
 use Rattle.meaning.specs.Meaning.{on, addOf, removeOf}
 use Rattle.meaning.specs.Rows.{Row, keyOf, lowerKey, lowerRow, removeRowsCount, isInByRows, listByRows, countByRows}
 use Rattle.meaning.specs.Arrival.{sameValue}
-use Rattle.meaning.proofs.Tests.{cases, clash, fails, and-left, and-right, and-both, and-fails, not-holds, fails-not, any-in, any-out, any-none, or-cases, or-right, or-right-fails}
+use Rattle.meaning.proofs.Tests.{iff, cases, clash, fails, and-left, and-right, and-both, and-fails, not-holds, fails-not, any-in, any-out, any-none, or-cases, or-right, or-right-fails}
 use Rattle.meaning.proofs.Ascending.{Asc, Sorted, lower-cases}
 use Rattle.meaning.proofs.OneValue.{add-on, remove-on}
 use Rattle.meaning.proofs.RowLaws.{on-eq}
 use Rattle.meaning.proofs.Steps.{and-false, add-not-rem}
 use Rattle.meaning.proofs.Lists.{one-list, rows-list-in, rows-list-out, rows-list-asc}
-use Rattle.scans.specs.Showing.{followed, shows, shown, countShown}
+use Rattle.scans.specs.Showing.{followed, shows, shown, countShown, showsValue, valueShown}
 
 -- of two rows in order, the lower has the lower object, or the same object and no higher value, or both the same and no higher code
 abbrev InOrder : (object value code object′ value′ code′ : ℕ) → Type 0
@@ -178,3 +178,25 @@ list-shown kind o rows h c n = one-list (listByRows kind o rows) (shown o rows) 
 pub count-shown : (kind o : ℕ) (rows : List Row) → Sorted rows → Coded o rows → (removeRowsCount kind ≡ false → (v : ℕ) → any (λ (r : Row). removeOf o v (r .operation)) rows ≡ false) → countByRows kind o rows ≡ countShown o rows
 unfolding countByRows countShown
 count-shown kind o rows h c n = ap length (list-shown kind o rows h c n)
+
+-- A value is shown where it is among the values shown.
+shown-member : (o v : ℕ) (rows : List Row) → valueShown o v rows ≡ true → List·Memᴰ v (shown o rows)
+unfolding valueShown showsValue
+shown-member o v [] e = absurd (false≢true e)
+shown-member o v (row ∷ rest) e = ⊎-elim
+    (λ p. rw (and-left (shows o row rest) (eqb (row .operation .value) v) p) (List·Memᴰ·head (sym (eqb-true (row .operation .value) v (and-right (shows o row rest) (eqb (row .operation .value) v) p)))))
+    (λ p. cases (shows o row rest) (λ q. rw q (List·Memᴰ·tail (shown-member o v rest p))) (λ q. rw q (shown-member o v rest p)))
+    (or-cases (shows o row rest && eqb (row .operation .value) v) (valueShown o v rest) e)
+
+member-shown : (o v : ℕ) (rows : List Row) → List·Memᴰ v (shown o rows) → valueShown o v rows ≡ true
+unfolding valueShown showsValue
+member-shown o v [] m = elim m [ ]
+member-shown o v (row ∷ rest) m = cases (shows o row rest)
+    (λ q. ⊎-elim (λ e. rw (q, eq-eqb (row .operation .value) v (sym e)) refl) (λ n. or-right (shows o row rest && eqb (row .operation .value) v) (member-shown o v rest n)) (List·Memᴰ·cases-cons (rw q at m)))
+    (λ q. or-right (shows o row rest && eqb (row .operation .value) v) (member-shown o v rest (rw q at m)))
+
+-- So the test for one value answers whether it is in.
+pub value-in-shown : (kind o v : ℕ) (rows : List Row) → listByRows kind o rows ≡ shown o rows → isInByRows kind o v rows ≡ valueShown o v rows
+value-in-shown kind o v rows e = iff (isInByRows kind o v rows) (valueShown o v rows)
+    (λ p. member-shown o v rows (subst (λ (l : List ℕ). List·Memᴰ v l) e (rows-list-in kind o v rows p)))
+    (λ p. rows-list-out kind o v rows (subst (λ (l : List ℕ). List·Memᴰ v l) (sym e) (shown-member o v rows p)))

@@ -1,4 +1,4 @@
--- In a table by the rules the list and the headcount of an object are what its rows show.
+-- In a table by the rules the list, the headcount and the test of one value are what its rows show.
 use mathlib.Core.Path.{_≡_, refl, sym, subst}
 use mathlib.Core.Bool.{Bool, true, false, _&&_, _||_, not, false≢true}
 use mathlib.Core.Logic.{⊎-elim}
@@ -9,7 +9,7 @@ use borrow.Author.Tests.{eqb-true}
 use Rattle.meaning.specs.Tests.{any}
 use Rattle.meaning.specs.Operations.{Operation, isCounter, adds, removes, growSet, twoPhaseSet, codesOf, codeAllowed, removesStand}
 use Rattle.meaning.specs.Meaning.{on, addOf, removeOf}
-use Rattle.meaning.specs.Rows.{Row, removeRowsCount, listByRows, countByRows}
+use Rattle.meaning.specs.Rows.{Row, removeRowsCount, isInByRows, listByRows, countByRows}
 use Rattle.meaning.specs.Arrival.{getsRow}
 use Rattle.meaning.specs.Table.{Table, kindIn, storable, settledOnly, isTable}
 use Rattle.meaning.proofs.Tests.{cases, clash, fails, and-left, or-cases, any-none}
@@ -18,8 +18,8 @@ use Rattle.meaning.proofs.RowLaws.{on-eq}
 use Rattle.meaning.proofs.Steps.{add-not-rem}
 use Rattle.meaning.proofs.Settling.{stored-codes}
 use Rattle.meaning.proofs.TableFacts.{Facts, facts}
-use Rattle.scans.specs.Showing.{shown, countShown}
-use Rattle.scans.proofs.Showing.{Coded, list-shown, count-shown}
+use Rattle.scans.specs.Showing.{shown, countShown, valueShown}
+use Rattle.scans.proofs.Showing.{Coded, list-shown, count-shown, value-in-shown}
 
 -- tests of codes
 widen : (a p q r : Bool) → (a || (q && r)) ≡ true → (a || ((p || q) && r)) ≡ true
@@ -93,3 +93,6 @@ table-list table o h = list-of-facts table (facts table h) o
 
 pub table-count : (table : Table) (o : ℕ) → isTable table ≡ true → countByRows (kindIn (table .header) o) o (table .rows) ≡ countShown o (table .rows)
 table-count table o h = count-of-facts table (facts table h) o
+
+pub table-in : (table : Table) (o v : ℕ) → isTable table ≡ true → isInByRows (kindIn (table .header) o) o v (table .rows) ≡ valueShown o v (table .rows)
+table-in table o v h = value-in-shown (kindIn (table .header) o) o v (table .rows) (table-list table o h)

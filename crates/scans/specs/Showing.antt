@@ -1,5 +1,5 @@
 -- Which row shows a value that is in: in a table by the rules a row and the one behind it decide.
-use mathlib.Core.Bool.{Bool, true, false, not, _&&_, cond}
+use mathlib.Core.Bool.{Bool, true, false, not, _&&_, _||_, cond}
 use mathlib.Core.List.{List, [], _∷_}
 use Prim.Native.Nat.{ℕ, suc, _+_}
 use lib.Dec.{eqb}
@@ -25,6 +25,15 @@ shown o (row ∷ rows) = cond (shows o row rows) (row .operation .value ∷ show
 -- How many values are shown: the headcount of a roll.
 unfoldable pub countShown : ℕ → List Row → ℕ
 countShown o rows = length (shown o rows)
+
+-- A row shows this value.
+unfoldable pub showsValue : ℕ → ℕ → Row → List Row → Bool
+showsValue o v row behind = shows o row behind && eqb (row .operation .value) v
+
+-- The value is among those shown.
+unfoldable pub valueShown : ℕ → ℕ → List Row → Bool
+valueShown o v [] = false
+valueShown o v (row ∷ rows) = showsValue o v row rows || valueShown o v rows
 
 -- How many rows stand before the first that shows a value.
 unfoldable pub beforeShown : ℕ → List Row → ℕ

@@ -7,7 +7,7 @@ ghost use lib.ListN.{length, drop, take};
 ghost use Rattle.layout.specs.Words.{pieces};
 ghost use Rattle.layout.specs.Layout.{rowOf};
 ghost use Rattle.placing.specs.Placing.{keyWords};
-ghost use Rattle.scans.specs.Showing.{beforeShown, countShown, sameKey, shows};
+ghost use Rattle.scans.specs.Showing.{beforeShown, countShown, sameKey, shows, showsValue, valueShown};
 
 const ADDS: u32 = 1;
 
@@ -17,6 +17,9 @@ const HIGH_AT: usize = 1;
 const LOW_AT: usize = 2;
 
 const CODE_AT: usize = 3;
+
+// Values are 32-bit numbers: their high word is 0.
+const NO_HIGH: u32 = 0;
 
 // Whether the rows at two places are of different values, by their object and value words.
 fn differ(rows: &[u32], at: usize, next: usize) -> bool
@@ -47,6 +50,44 @@ fn shows_at(rows: &[u32], width: usize, at: usize, more: usize, object: u32) -> 
         return true;
     }
     differ(rows, at, at + width)
+}
+
+// Whether the row at a place shows this value of the object.
+fn shows_value_at(
+    rows: &[u32],
+    width: usize,
+    at: usize,
+    more: usize,
+    object: u32,
+    value: u32,
+) -> bool
+    requires { ⌜ (at + more * width ≤ length (now rows)) × (0 < more) × (keyWords ≤ width) × (at + keyWords ≤ length (now rows)) ⌝ }
+    ensures { λ r. ⌜ r ≡ showsValue object value (rowOf (take width (drop at (now (rows .entry))))) (map rowOf (pieces width (more - 1) (drop (at + width) (now (rows .entry))))) ⌝ }
+{
+    if rows[at + HIGH_AT] != NO_HIGH {
+        return false;
+    }
+    if rows[at + LOW_AT] != value {
+        return false;
+    }
+    shows_at(rows, width, at, more, object)
+}
+
+// Whether a value of the object is shown.
+pub fn value_shown(rows: &[u32], width: usize, count: usize, object: u32, value: u32) -> bool
+    requires { ⌜ (count * width ≤ length (now rows)) × (keyWords ≤ width) ⌝ }
+    ensures { λ r. ⌜ r ≡ valueShown object value (map rowOf (pieces width count (now (rows .entry)))) ⌝ }
+{
+    let mut at = 0;
+    let mut more = count;
+    while 0 < more {
+        if shows_value_at(rows, width, at, more, object, value) {
+            return true;
+        }
+        at += width;
+        more -= 1;
+    }
+    false
 }
 
 // How many rows stand before the first that shows a value of the object.
