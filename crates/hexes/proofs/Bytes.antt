@@ -1,12 +1,12 @@
 -- Numbers and bytes: one spelling at each width.
 use Prim.Native.Nat.{ℕ, zero, suc, _+_, _*_, _/_, _%_, _<_, _^_}
 use mathlib.Core.Path.{_≡_, refl, sym, ap, _∙_}
-use mathlib.Core.List.{List, [], _∷_, _++_}
-use native.Mathlib.Nat.{add-mul, mul-assoc, pow-succ'}
+use mathlib.Core.List.{List, [], _∷_, _++_, append-assoc, append-nil}
+use native.Mathlib.Nat.{add-mul, mul-assoc, mul-comm, pow-succ'}
 use native.Mathlib.Omega.{arith}
 use lib.ListN.{length, getD, take, drop, length-append}
 use lib.Seq.{take-suc, length-take-le, take-all}
-use Rattle.hexes.specs.Numbers.{AllBytes, bigEndian, numberFrom, numberOf}
+use Rattle.hexes.specs.Numbers.{AllBytes, bigEndian, eightOf, numberFrom, numberOf}
 
 -- the bytes that follow count beside what came first
 pub number-append : (n : ℕ) (a b : List ℕ) → numberFrom n (a ++ b) ≡ numberFrom (numberFrom n a) b
@@ -77,3 +77,22 @@ number-only-spelling (suc width) bs e h =
     let q : numberOf bs / 256 ≡ numberOf (take width bs) = omega arith in
     let r : numberOf bs % 256 ≡ getD bs width 0 = omega arith in
     rw (q, r, number-only-spelling width (take width bs) (length-take-le width bs (omega arith)) (all-bytes-take width bs h)) (sym parted)
+
+-- the bytes of a number are those of its high part and those of its low part
+pub bigEndian-apart : (a b high low : ℕ) → low < 256 ^ b → bigEndian (a + b) (high * 256 ^ b + low) ≡ bigEndian a high ++ bigEndian b low
+unfolding bigEndian
+bigEndian-apart a zero high low h =
+    let wide : a + 0 ≡ a = omega arith in
+    let all : high * 1 + low ≡ high = omega arith in
+    rw (wide, all, append-nil) refl
+bigEndian-apart a (suc b) high low h =
+    let wide : a + suc b ≡ suc (a + b) = omega arith in
+    let raised : high * 256 ^ suc b ≡ 256 * (high * 256 ^ b) = rw (pow-succ' 256 b, ← mul-assoc high 256 (256 ^ b), mul-comm high 256, mul-assoc 256 high (256 ^ b)) refl in
+    let q : (high * 256 ^ suc b + low) / 256 ≡ high * 256 ^ b + low / 256 = omega arith in
+    let r : (high * 256 ^ suc b + low) % 256 ≡ low % 256 = omega arith in
+    let k : low / 256 < 256 ^ b = omega arith in
+    rw (wide, q, r, bigEndian-apart a b high (low / 256) k, append-assoc) refl
+
+-- a number of 8 bytes is two words of 4
+pub eight-is-two-words : (high low : ℕ) → low < 256 ^ 4 → bigEndian 8 (eightOf high low) ≡ bigEndian 4 high ++ bigEndian 4 low
+eight-is-two-words high low h = bigEndian-apart 4 4 high low h

@@ -71,6 +71,29 @@ decoded-only-spelling line buffer count = go (isLine (length buffer) line) refl
     go true e f = let many : length (pairs (length buffer) line) ≡ count = cc in rw (take-at (pairs (length buffer) line) (drop (length (pairs (length buffer) line)) buffer) count many) (line-only-spelling (length buffer) line e)
     go false e f = absurd (let z : _≡_ {A = ℕ} 0 1 = cc in omega arith)
 
+-- what is read is bytes
+pub all-bytes-pairs : (room : ℕ) (line : List ℕ) → AllBytes (pairs room line)
+unfolding pairs AllBytes
+all-bytes-pairs zero line = tt
+all-bytes-pairs (suc room) [] = tt
+all-bytes-pairs (suc room) (h ∷ []) = tt
+all-bytes-pairs (suc room) (h ∷ l ∷ line) = go (isDigit h && isDigit l) refl (all-bytes-pairs room line)
+  where
+    go : (t : Bool) → isDigit h && isDigit l ≡ t → AllBytes (pairs room line) → AllBytes (pick t (byteOf h l ∷ pairs room line) [])
+    go false e rest = tt
+    go true e rest =
+        let kh : valueOf h < 16 = digit-small h (and-left (isDigit h) (isDigit l) e) in
+        let kl : valueOf l < 16 = digit-small l (and-right (isDigit h) (isDigit l) e) in
+        (omega arith, rest)
+
+pub all-bytes-decoded : (line buffer : List ℕ) (count : ℕ) → decoded line buffer .0 ≡ Bytes count → AllBytes (take count (decoded line buffer .1))
+unfolding decoded
+all-bytes-decoded line buffer count = go (isLine (length buffer) line)
+  where
+    go : (t : Bool) → pick t (Bytes (length (pairs (length buffer) line))) Malformed ≡ Bytes count → AllBytes (take count (pairs (length buffer) line ++ drop (length (pairs (length buffer) line)) buffer))
+    go true f = let many : length (pairs (length buffer) line) ≡ count = cc in rw (take-at (pairs (length buffer) line) (drop (length (pairs (length buffer) line)) buffer) count many) (all-bytes-pairs (length buffer) line)
+    go false f = absurd (let z : _≡_ {A = ℕ} 0 1 = cc in omega arith)
+
 -- a line that is too long for the buffer, and its first characters without LF
 
 long-no-lf : (l : List ℕ) → 2 ≤ length l → justLf l ≡ false

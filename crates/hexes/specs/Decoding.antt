@@ -54,7 +54,7 @@ abbrev pub refusalOf : Decoded → ℕ
 refusalOf (Bytes count) = 0
 refusalOf Malformed = 1
 
--- "A line's type is its first two characters if they are lower-case hex digits"
+-- a line's type is its first two characters if they are lower-case digits
 abbrev pub typeOfPair : Pair → LineType
 typeOfPair (Byte b) = Is b
 typeOfPair Other = Unknown

@@ -3,3 +3,5 @@ pub mod Readers
 pub mod Spelling
 pub mod Taken
 pub mod Named
+pub mod Longest
+pub mod Eight

@@ -1,17 +1,24 @@
 -- The two laws of each line that a station reads, by the names of its fields. An opening's are beside its kinds.
 use Prim.Native.Nat.{ℕ, _≤_}
 use mathlib.Core.Path.{_≡_, refl, sym, ap, _∙_}
-use mathlib.Core.Bool.{true}
+use mathlib.Core.Bool.{Bool, true, false, _&&_}
 use mathlib.Core.List.{List, [], _∷_, _++_}
 use native.Mathlib.Omega.{arith}
-use lib.ListN.{length, getD, take}
+use borrow.Author.Tests.{leb-true}
+use lib.Dec.{leb}
+use lib.ListN.{length, getD, take, drop}
+use lib.Seq.{length-take-le}
+use Rattle.hexes.specs.Choice.{pick}
 use Rattle.hexes.specs.Numbers.{AllBytes}
-use Rattle.shapes.specs.Reading.{padded}
-use Rattle.shapes.specs.Shapes.{Fitting, read}
-use Rattle.lines.specs.Types.{lineOf, shapeOf, operation, issue, settling, question, printing}
+use Rattle.hexes.proofs.Digits.{and-left}
+use Rattle.shapes.specs.Reading.{entries, fieldsRead, hasShape, mostStations, padded, sizeOf, unread}
+use Rattle.shapes.specs.Shapes.{Fitting, lengthOf, read}
+use Rattle.shapes.specs.declared.Fields.{Fields}
+use Rattle.lines.specs.Types.{headOf, lineOf, lineRead, shapeOf, operation, issue, settling, question, printing}
 use Rattle.lines.specs.Named.{issueOf, issueRead, operationOf, operationRead, printingRead, questionOf, questionRead, settlingOf, settlingRead}
 use Rattle.lines.proofs.Spelling.{line-of-spelt, only-spelling}
 use Rattle.lines.proofs.Known.{known}
+use Rattle.lines.proofs.Readers.{operation-vector}
 use Rattle.lines.proofs.Taken.{head-reads-back, line-only-spelling-named, line-reads-back, second-field, written-is-of}
 
 pub issue-reads-back : (object code value : ℕ) → Fitting (shapeOf issue 0) (issue .typeByte ∷ object ∷ code ∷ value ∷ [])
@@ -42,9 +49,9 @@ pub question-only-spelling : (bytes : List ℕ) → AllBytes bytes → questionR
 unfolding questionRead
 question-only-spelling bytes h e = line-only-spelling-named question (known question refl) 0 bytes refl h e
 
-pub printing-reads-back : Fitting (shapeOf printing 0) (printing .typeByte ∷ []) → printingRead (lineOf printing [] []) ≡ true
-unfolding printingRead
-printing-reads-back fit = written-is-of printing [] [] refl fit (known printing refl)
+pub printing-reads-back : printingRead (lineOf printing [] []) ≡ true
+unfolding printingRead Fitting
+printing-reads-back = written-is-of printing [] [] refl (omega arith, tt) (known printing refl)
 
 pub printing-only-spelling : (bytes : List ℕ) → AllBytes bytes → printingRead bytes ≡ true → lineOf printing [] [] ≡ bytes
 unfolding printingRead read
@@ -62,7 +69,38 @@ module _ (sender object code value : ℕ) (vector : List ℕ) where
       let many : getD (lineOf operation operationFields vector) 1 0 ≡ length vector = sym (second-field _ (lineOf operation operationFields vector)) ∙ ap (λ (l : List ℕ). getD l 1 0) (head-reads-back operation operationFields vector refl fit) in
       rw many (ap operationOf (line-reads-back operation operationFields vector refl fit (known operation refl) refl few))
 
+-- the N of an operation that reads is its second byte, and no more than a vector's entries
+module _ (bytes : List ℕ) where
+  abbrev whole : Fields
+  whole = record { ok = true; head = padded 6 (read (headOf operation) bytes); vector = padded 16 (entries (getD bytes 1 0) (drop (lengthOf (headOf operation)) bytes)) }
+
+  abbrev shaped : Bool
+  shaped = leb (getD bytes 1 0) mostStations && hasShape (operation .typeByte) (sizeOf (headOf operation) (getD bytes 1 0)) bytes
+
+  named-at : (t : Bool) → pick t whole unread .ok ≡ true → getD (pick t whole unread .head) 1 0 ≡ getD bytes 1 0
+  unfolding padded read
+  named-at true e = second-field (1 ∷ 1 ∷ 1 ∷ 4 ∷ []) bytes
+  named-at false e = absurd (let z : _≡_ {A = ℕ} 0 1 = cc in omega arith)
+
+  few-at : (t : Bool) → shaped ≡ t → pick t whole unread .ok ≡ true → getD bytes 1 0 ≤ 16
+  few-at true f e = leb-true (getD bytes 1 0) mostStations (and-left (leb (getD bytes 1 0) mostStations) (hasShape (operation .typeByte) (sizeOf (headOf operation) (getD bytes 1 0)) bytes) f)
+  few-at false f e = absurd (let z : _≡_ {A = ℕ} 0 1 = cc in omega arith)
+
+  pub operation-stations : operationRead bytes .ok ≡ true → operationRead bytes .stations ≡ getD bytes 1 0
+  unfolding operationRead lineRead fieldsRead
+  operation-stations = named-at shaped
+
+  pub operation-stations-few : operationRead bytes .ok ≡ true → operationRead bytes .stations ≤ 16
+  unfolding operationRead lineRead fieldsRead
+  operation-stations-few e = rw (operation-stations e) (few-at shaped refl e)
+
+  -- its entries are as many as its N says
+  pub operation-vector-length : operationRead bytes .ok ≡ true → length (take (operationRead bytes .stations) (operationRead bytes .vector)) ≡ operationRead bytes .stations
+  operation-vector-length e = length-take-le (operationRead bytes .stations) (operationRead bytes .vector) (omega (arith, operation-vector bytes (operationRead bytes) refl, operation-stations-few e))
+
 pub operation-only-spelling : (bytes : List ℕ) → AllBytes bytes → operationRead bytes .ok ≡ true
-    → lineOf operation (operationRead bytes .stations ∷ operationRead bytes .sender ∷ operationRead bytes .object ∷ operationRead bytes .code ∷ operationRead bytes .value ∷ []) (take (getD bytes 1 0) (operationRead bytes .vector)) ≡ bytes
+    → lineOf operation (operationRead bytes .stations ∷ operationRead bytes .sender ∷ operationRead bytes .object ∷ operationRead bytes .code ∷ operationRead bytes .value ∷ []) (take (operationRead bytes .stations) (operationRead bytes .vector)) ≡ bytes
 unfolding operationRead
-operation-only-spelling bytes h e = line-only-spelling-named operation (known operation refl) (getD bytes 1 0) bytes refl h e
+operation-only-spelling bytes h e =
+    ap (λ (n : ℕ). lineOf operation (operationRead bytes .stations ∷ operationRead bytes .sender ∷ operationRead bytes .object ∷ operationRead bytes .code ∷ operationRead bytes .value ∷ []) (take n (operationRead bytes .vector))) (operation-stations bytes e)
+    ∙ line-only-spelling-named operation (known operation refl) (getD bytes 1 0) bytes refl h e

@@ -101,7 +101,7 @@ pub second-field : (widths bytes : List ℕ) → getD (read (1 ∷ 1 ∷ widths)
 unfolding read
 second-field widths bytes = first-number (drop 1 bytes) ∙ getD-drop 1 bytes 0 0
 
-count-field : (bytes : List ℕ) → getD (read (headOf opening) bytes) 4 0 ≡ getD bytes 5 0
+pub count-field : (bytes : List ℕ) → getD (read (headOf opening) bytes) 4 0 ≡ getD bytes 5 0
 unfolding read
 count-field bytes = rw (drop-drop 1 1 bytes, drop-drop 1 2 bytes, drop-drop 2 3 bytes) (first-number (drop 5 bytes) ∙ getD-drop 5 bytes 0 0)
 
@@ -113,6 +113,18 @@ opening-reads-back stations own capacity kinds fit =
     let head : read (headOf opening) (lineOf opening fields kinds) ≡ opening .typeByte ∷ fields = head-reads-back opening fields kinds refl fit in
     let many : getD (lineOf opening fields kinds) 5 0 ≡ length kinds = sym (count-field (lineOf opening fields kinds)) ∙ ap (λ (l : List ℕ). getD l 4 0) head in
     rw (many, written-is-of opening fields kinds refl fit (known opening refl), head) refl
+
+-- and its kinds stand behind its six bytes
+pub opening-kinds-read-back : (stations own capacity : ℕ) (kinds : List ℕ) → Fitting (shapeOf opening (length kinds)) (opening .typeByte ∷ stations ∷ own ∷ capacity ∷ length kinds ∷ kinds)
+    → drop 6 (lineOf opening (stations ∷ own ∷ capacity ∷ length kinds ∷ []) kinds) ≡ kinds
+unfolding isOf hasShape lengthOf
+opening-kinds-read-back stations own capacity kinds fit =
+    let fields : List ℕ = stations ∷ own ∷ capacity ∷ length kinds ∷ [] in
+    let bytes : List ℕ = lineOf opening fields kinds in
+    let is : eqb (length bytes) (6 + 1 * length kinds) && startsWith 16 bytes ≡ true = written-is-of opening fields kinds refl fit (known opening refl) in
+    let size : length bytes ≡ 6 + 1 * length kinds = eqb-true (length bytes) (6 + 1 * length kinds) (and-left (eqb (length bytes) (6 + 1 * length kinds)) (startsWith 16 bytes) is) in
+    let count : length (drop 6 bytes) ≡ length kinds = length-drop 6 bytes ∙ omega arith in
+    sym (bytes-as-fields (drop 6 bytes)) ∙ ap (λ (n : ℕ). read (replicate n 1) (drop 6 bytes)) count ∙ more-reads-back opening fields kinds refl fit
 
 opening-apart : (bytes : List ℕ) → AllBytes bytes → isOf opening (getD bytes 5 0) bytes ≡ true → lineOf opening (drop 1 (read (headOf opening) bytes)) (drop 6 bytes) ≡ bytes
 unfolding isOf hasShape lengthOf read

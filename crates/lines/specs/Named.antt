@@ -22,7 +22,7 @@ field f i = getD (f .head) i 0
 abbrev pub openingOf : Bool → List ℕ → Opening
 openingOf ok head = record { ok = ok; stations = getD head 1 0; own = getD head 2 0; capacity = getD head 3 0; count = getD head 4 0 }
 
--- where an opening says how many kinds follow it: "6 bytes plus the count"
+-- where an opening says how many kinds follow it: its length is 6 bytes and that count
 abbrev pub countOf : List ℕ → ℕ
 countOf bytes = getD bytes 5 0
 

@@ -78,10 +78,6 @@ count = record { typeByte = 0; widths = 2 ∷ []; each = 4 }
 abbrev pub sum : Line
 sum = record { typeByte = 0; widths = 4 ∷ 4 ∷ []; each = 4 }
 
--- "list a 2-byte count, then the different values ascending"
-abbrev pub list : Line
-list = record { typeByte = 0; widths = 2 ∷ []; each = 4 }
-
 -- the widths with that of the type
 abbrev pub headOf : Line → List ℕ
 headOf line = 1 ∷ line .widths
@@ -105,3 +101,7 @@ lineRead line stations bytes = fieldsRead (line .typeByte) (headOf line) station
 -- the same bytes with the further fields apart, as they are written
 abbrev pub lineOf : Line → List ℕ → List ℕ → List ℕ
 lineOf line fields more = lineBytes (headOf line) (line .typeByte ∷ fields) (line .each) more
+
+-- the bytes of the longest line that reads: an opening with as many kinds as its count can say
+abbrev pub longest : ℕ
+longest = 261

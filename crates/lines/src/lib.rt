@@ -2,10 +2,18 @@
 ghost use mathlib.Core.Path.{_≡_};
 ghost use Prim.Native.Nat.{_<_};
 ghost use lib.ListN.{getD};
+ghost use Rattle.lines.specs.Types.{longest};
 ghost use Rattle.lines.specs.Named.{issueRead, openingRead, operationRead, printingRead, questionRead, settlingRead};
 
 // The bytes of the longest line that can get anything but a refusal of its shape: an opening with 255 kinds.
 pub const LONGEST: usize = 261;
+
+// Ties the constant to the laws, which can't name it.
+pub fn longest_line() -> usize
+    ensures { λ r. ⌜ r ≡ longest ⌝ }
+{
+    LONGEST
+}
 
 // The types.
 pub const OPENING: u8 = 0x10;

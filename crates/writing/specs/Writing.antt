@@ -19,7 +19,7 @@ writtenEach width numbers = written (replicate (length numbers) width) numbers
 unfoldable pub lineBytes : List ℕ → List ℕ → ℕ → List ℕ → List ℕ
 lineBytes widths fields width numbers = written widths fields ++ writtenEach width numbers
 
--- "Spaces for frames and lines count characters with LF"; "Bytes of a space beyond a result stay"; one that is too short stays whole
+-- spaces for lines count characters with LF; "Bytes of a space beyond a result stay"; one that is too short stays whole
 unfoldable pub lineWritten : List ℕ → List ℕ → Written × List ℕ
 lineWritten space bytes =
     pick (leb (length (hexLine bytes)) (length space))
