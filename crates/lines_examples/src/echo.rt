@@ -9,12 +9,12 @@ const WRONG_SHAPE: u32 = 1;
 // An opening's count is one byte.
 const MOST_KINDS: usize = 255;
 
-pub fn refuse(out: &mut [u8]) -> Written {
+pub(crate) fn refuse(out: &mut [u8]) -> Written {
     printed::write_refusal(out, WRONG_SHAPE)
 }
 
 // The size of the group: the last opening's.
-pub fn stations_after(s: &[u8], before: usize) -> usize {
+pub(crate) fn stations_after(s: &[u8], before: usize) -> usize {
     let r = lines::read_opening(s);
     if r.ok { r.stations as usize } else { before }
 }
@@ -160,7 +160,7 @@ fn echo_closing(s: &[u8], out: &mut [u8]) -> Written {
 }
 
 // The line again, or `ff01`.
-pub fn echo(s: &[u8], stations: usize, out: &mut [u8]) -> Written {
+pub(crate) fn echo(s: &[u8], stations: usize, out: &mut [u8]) -> Written {
     let NextByte::Byte(kind, _) = shapes::byte_at(s, 0) else {
         return refuse(out);
     };
