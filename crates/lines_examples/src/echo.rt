@@ -1,5 +1,4 @@
 // A line's bytes taken apart, and the line printed again.
-use shapes::MOST_STATIONS;
 use shapes::NextByte;
 use writing::Written;
 
@@ -58,9 +57,6 @@ fn echo_operation(s: &[u8], out: &mut [u8]) -> Written {
     if !r.ok {
         return refuse(out);
     }
-    if MOST_STATIONS < n {
-        return refuse(out);
-    }
     printed::write_operation(out, r.sender, r.object, r.code, r.value, &vector[0..n])
 }
 
@@ -105,9 +101,6 @@ fn echo_clock(s: &[u8], stations: usize, out: &mut [u8]) -> Written {
     if !r.ok {
         return refuse(out);
     }
-    if MOST_STATIONS < stations {
-        return refuse(out);
-    }
     printed::write_clock(out, &vector[0..stations])
 }
 
@@ -115,9 +108,6 @@ fn echo_last(s: &[u8], stations: usize, out: &mut [u8]) -> Written {
     let r = saved::read_last(s, stations);
     let vector = r.vector;
     if !r.ok {
-        return refuse(out);
-    }
-    if MOST_STATIONS < stations {
         return refuse(out);
     }
     printed::write_last(out, r.station, &vector[0..stations])
@@ -135,9 +125,6 @@ fn echo_row(s: &[u8], stations: usize, out: &mut [u8]) -> Written {
     let r = saved::read_row(s, stations);
     let vector = r.vector;
     if !r.ok {
-        return refuse(out);
-    }
-    if MOST_STATIONS < stations {
         return refuse(out);
     }
     printed::write_row(
