@@ -9,8 +9,10 @@ use writing::Written;
 // The characters of the longest line. Of a longer one so many are kept, which get the same answer (law `kept-decoded` of `hexes`).
 const LINE: usize = 2 * lines::LONGEST + 1;
 
-// What the answers at the end say: the refusal of a space that holds no table, steps taken, and the total -7 in its two words.
+// What the answers at the end say: the refusal of a space that holds no table, a flag that is on, steps taken, and the total -7 in its two words.
 const NO_TABLE: u32 = 14;
+
+const ON: u32 = 1;
 
 const STEPS: u32 = 10;
 
@@ -123,8 +125,8 @@ fn issued() {
 // A list of one value.
 fn list() {
     let mut out = [0u8; LINE];
-    let fields = [lines::DONE as u32, 1];
     let values = [VALUE];
+    let fields = [lines::DONE as u32, values.len() as u32];
     let written = writing::write_fields(
         &mut out,
         &lines::TWO_BYTE_WIDTHS,
@@ -142,7 +144,7 @@ fn answers() {
     print(&out, done);
     let refusal = printed::write_refusal(&mut out, NO_TABLE);
     print(&out, refusal);
-    let flag = printed::write_flag(&mut out, 1);
+    let flag = printed::write_flag(&mut out, ON);
     print(&out, flag);
     let count = printed::write_count(&mut out, STEPS);
     print(&out, count);
