@@ -3,3 +3,4 @@ pub mod Numbers
 pub mod Hex
 pub mod Decoding
 pub mod Putting
+pub mod Keeping

@@ -4,6 +4,7 @@ ghost use Prim.Native.Nat.{_+_, _*_, _%_, _≤_, _<_};
 ghost use lib.ListN.{drop, length};
 ghost use Rattle.hexes.specs.Decoding.{decoded, endedAt, lineType, pairOf};
 ghost use Rattle.hexes.specs.Hex.{digitOf, valueOf};
+ghost use Rattle.hexes.specs.Keeping.{kept};
 ghost use Rattle.hexes.specs.Numbers.{bigEndian};
 ghost use Rattle.hexes.specs.Putting.{endAt, putAt};
 
@@ -93,6 +94,17 @@ fn ended_at(line: &[u8], at: usize, count: usize) -> Decoded
         }
     }
     Decoded::Malformed
+}
+
+// A character joins the line where there is room, or is let go; the number of characters kept.
+pub fn keep(line: &mut [u8], have: usize, b: u8) -> usize
+    ensures { λ r. ⌜ (r, now (line .exit)) ≡ kept (now (line .entry)) have b ⌝ }
+{
+    if have < line.len() {
+        line[have] = b;
+        return have + 1;
+    }
+    have
 }
 
 // Reads a line to bytes in one pass. A line of more bytes than the buffer holds is refused like one without its LF.

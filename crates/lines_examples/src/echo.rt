@@ -1,5 +1,4 @@
 // A line's bytes taken apart, and the line printed again.
-use shapes::MOST_STATIONS;
 use shapes::NextByte;
 use writing::Written;
 
@@ -9,12 +8,12 @@ const WRONG_SHAPE: u32 = 1;
 // An opening's count is one byte.
 const MOST_KINDS: usize = 255;
 
-pub fn refuse(out: &mut [u8]) -> Written {
+pub(crate) fn refuse(out: &mut [u8]) -> Written {
     printed::write_refusal(out, WRONG_SHAPE)
 }
 
 // The size of the group: the last opening's.
-pub fn stations_after(s: &[u8], before: usize) -> usize {
+pub(crate) fn stations_after(s: &[u8], before: usize) -> usize {
     let r = lines::read_opening(s);
     if r.ok { r.stations as usize } else { before }
 }
@@ -56,9 +55,6 @@ fn echo_operation(s: &[u8], out: &mut [u8]) -> Written {
     let vector = r.vector;
     let n = r.stations as usize;
     if !r.ok {
-        return refuse(out);
-    }
-    if MOST_STATIONS < n {
         return refuse(out);
     }
     printed::write_operation(out, r.sender, r.object, r.code, r.value, &vector[0..n])
@@ -105,9 +101,6 @@ fn echo_clock(s: &[u8], stations: usize, out: &mut [u8]) -> Written {
     if !r.ok {
         return refuse(out);
     }
-    if MOST_STATIONS < stations {
-        return refuse(out);
-    }
     printed::write_clock(out, &vector[0..stations])
 }
 
@@ -115,9 +108,6 @@ fn echo_last(s: &[u8], stations: usize, out: &mut [u8]) -> Written {
     let r = saved::read_last(s, stations);
     let vector = r.vector;
     if !r.ok {
-        return refuse(out);
-    }
-    if MOST_STATIONS < stations {
         return refuse(out);
     }
     printed::write_last(out, r.station, &vector[0..stations])
@@ -135,9 +125,6 @@ fn echo_row(s: &[u8], stations: usize, out: &mut [u8]) -> Written {
     let r = saved::read_row(s, stations);
     let vector = r.vector;
     if !r.ok {
-        return refuse(out);
-    }
-    if MOST_STATIONS < stations {
         return refuse(out);
     }
     printed::write_row(
@@ -160,7 +147,7 @@ fn echo_closing(s: &[u8], out: &mut [u8]) -> Written {
 }
 
 // The line again, or `ff01`.
-pub fn echo(s: &[u8], stations: usize, out: &mut [u8]) -> Written {
+pub(crate) fn echo(s: &[u8], stations: usize, out: &mut [u8]) -> Written {
     let NextByte::Byte(kind, _) = shapes::byte_at(s, 0) else {
         return refuse(out);
     };

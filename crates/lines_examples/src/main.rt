@@ -6,8 +6,35 @@ use libc::STDIN_FILENO;
 use libc::STDOUT_FILENO;
 use writing::Written;
 
-// The characters of the longest line. Of a longer one so many are kept, without its LF, which gets the same answer.
+// The characters of the longest line. Of a longer one so many are kept, which get the same answer (law `kept-decoded` of `hexes`).
 const LINE: usize = 2 * lines::LONGEST + 1;
+
+// What the answers at the end say: the refusal of a space that holds no table, a flag that is on, steps taken, and the total -7 in its two words.
+const NO_TABLE: u32 = 14;
+
+const ON: u32 = 1;
+
+const STEPS: u32 = 10;
+
+const TOTAL_HIGH: u32 = u32::MAX;
+
+const TOTAL_LOW: u32 = u32::MAX - 6;
+
+// The operation issued there, and the value of the list: an add of 7 to object 0 by station 0 of two, its first.
+const SENDER: u32 = 0;
+
+const OBJECT: u32 = 0;
+
+const ADD: u32 = 1;
+
+const VALUE: u32 = 7;
+
+const VECTOR: [u32; 2] = [1, 0];
+
+// The width of `00` in bytes, and in characters.
+const DONE_WIDTH: usize = 1;
+
+const DONE_CHARACTERS: usize = 2;
 
 // What is kept from one byte of input to the next: characters of a line, and the group's size from the last opening.
 struct Kept {
@@ -26,43 +53,43 @@ fn print(out: &[u8], written: Written) {
     }
 }
 
+// The answer to what is no line.
+fn refuse() {
+    let mut out = [0u8; LINE];
+    let written = echo::refuse(&mut out);
+    print(&out, written);
+}
+
 // Answers one line; the group's size after it.
 fn reply(line: &[u8], stations: usize) -> usize {
     let mut bytes = [0u8; lines::LONGEST];
     let mut out = [0u8; LINE];
     match hexes::decode(line, &mut bytes) {
         Decoded::Bytes(n) => {
-            if n <= lines::LONGEST {
-                let written = echo::echo(&bytes[0..n], stations, &mut out);
-                print(&out, written);
-                return echo::stations_after(&bytes[0..n], stations);
+            if lines::LONGEST < n {
+                refuse();
+                return stations;
             }
+            let written = echo::echo(&bytes[0..n], stations, &mut out);
+            print(&out, written);
+            echo::stations_after(&bytes[0..n], stations)
         }
         Decoded::Malformed => {
-            let written = echo::refuse(&mut out);
-            print(&out, written);
+            refuse();
+            stations
         }
     }
-    stations
-}
-
-// A byte joins the line where there is room; the characters kept.
-fn keep(line: &mut [u8], have: usize, b: u8) -> usize {
-    if have < line.len() {
-        line[have] = b;
-        return have + 1;
-    }
-    have
 }
 
 // One byte of input: it joins the line, and ends it if it is LF.
 fn take(line: &mut [u8], kept: Kept, b: u8) -> Kept {
-    let have = keep(line, kept.have, b);
+    let have = hexes::keep(line, kept.have, b);
     let stations = kept.stations;
     if b != hexes::LF {
         return Kept { have, stations };
     }
     if line.len() < have {
+        refuse();
         return Kept { have: 0, stations };
     }
     Kept {
@@ -85,19 +112,46 @@ fn feed(line: &mut [u8], from: Kept, chunk: &[u8]) -> Kept {
     Kept { have, stations }
 }
 
+// The operation that was issued, behind `00`.
+fn issued() {
+    let mut done = [0u8; DONE_CHARACTERS];
+    hexes::put_number(&mut done, 0, lines::DONE as u32, DONE_WIDTH);
+    let mut out = [0u8; LINE];
+    let written = printed::write_operation(&mut out, SENDER, OBJECT, ADD, VALUE, &VECTOR);
+    io::write_all(STDOUT_FILENO, &done);
+    print(&out, written);
+}
+
+// A list of one value.
+fn list() {
+    let mut out = [0u8; LINE];
+    let values = [VALUE];
+    let fields = [lines::DONE as u32, values.len() as u32];
+    let written = writing::write_fields(
+        &mut out,
+        &lines::TWO_BYTE_WIDTHS,
+        &fields,
+        shapes::FOUR,
+        &values,
+    );
+    print(&out, written);
+}
+
 // One answer of each kind.
 fn answers() {
     let mut out = [0u8; LINE];
     let done = printed::write_done(&mut out);
     print(&out, done);
-    let refusal = printed::write_refusal(&mut out, 14);
+    let refusal = printed::write_refusal(&mut out, NO_TABLE);
     print(&out, refusal);
-    let flag = printed::write_flag(&mut out, 1);
+    let flag = printed::write_flag(&mut out, ON);
     print(&out, flag);
-    let count = printed::write_count(&mut out, 10);
+    let count = printed::write_count(&mut out, STEPS);
     print(&out, count);
-    let sum = printed::write_sum(&mut out, u32::MAX, u32::MAX - 6);
+    let sum = printed::write_sum(&mut out, TOTAL_HIGH, TOTAL_LOW);
     print(&out, sum);
+    issued();
+    list();
 }
 
 // The input is at its end: a last piece without LF is a line too.
@@ -105,6 +159,8 @@ fn finish(line: &[u8], have: usize, stations: usize) {
     if 0 < have {
         if have <= line.len() {
             reply(&line[0..have], stations);
+        } else {
+            refuse();
         }
     }
     answers();

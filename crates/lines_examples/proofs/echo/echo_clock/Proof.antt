@@ -1,4 +1,5 @@
 -- `lines_examples::echo::echo_clock` meets its contract.
+use Rattle.lines_examples.proofs.Within.{clock-within}
 use Rattle.saved.proofs.Vectors.{clock-vector}
 use native.Mathlib.Omega.{arith}
 use borrow.Author.Needs.{needs}
@@ -17,15 +18,6 @@ same-length c = search needs
 returns : tie.Need-returns
 returns c = search needs
 
-refuse-requires-2 : tie.Need-refuse-requires-2
-refuse-requires-2 c κs = search needs
-
-same-length-2 : tie.Need-same-length-2
-same-length-2 c = search needs
-
-returns-2 : tie.Need-returns-2
-returns-2 c = search needs
-
 sub-write-clock : tie.Need-sub-write-clock
 sub-write-clock c = search needs
 
@@ -33,16 +25,16 @@ part-write-clock-start : tie.Need-part-write-clock-start
 part-write-clock-start c = search needs
 
 part-write-clock-end : tie.Need-part-write-clock-end
-part-write-clock-end c = omega (arith, clock-vector _ _ _ (c .before .before .before .before .before .before .read-clock .ensures))
+part-write-clock-end c = omega (arith, clock-vector _ _ _ (c .before .before .before .before .before .read-clock .ensures), clock-within _ _ _ (c .before .before .before .before .before .read-clock .ensures) (c .before .before .if1 .left))
 
 write-clock-requires : tie.Need-write-clock-requires
-write-clock-requires c κs = search needs
+write-clock-requires c κs = omega (arith, clock-vector _ _ _ (c .before .before .before .before .before .before .read-clock .ensures), clock-within _ _ _ (c .before .before .before .before .before .before .read-clock .ensures) (c .before .before .before .if1 .left))
 
-same-length-3 : tie.Need-same-length-3
-same-length-3 c = search needs
+same-length-2 : tie.Need-same-length-2
+same-length-2 c = search needs
 
-returns-3 : tie.Need-returns-3
-returns-3 c = search needs
+returns-2 : tie.Need-returns-2
+returns-2 c = search needs
 
 pub echo-clock-spec : {M : Type 1} → statement M
 echo-clock-spec =
@@ -52,12 +44,9 @@ echo-clock-spec =
     refuse-requires
     same-length
     returns
-    refuse-requires-2
-    same-length-2
-    returns-2
     sub-write-clock
     part-write-clock-start
     part-write-clock-end
     write-clock-requires
-    same-length-3
-    returns-3)
+    same-length-2
+    returns-2)

@@ -1,4 +1,5 @@
 -- `lines_examples::echo::echo_operation` meets its contract.
+use Rattle.lines_examples.proofs.Within.{operation-within}
 use Rattle.lines.proofs.Readers.{operation-vector}
 use native.Mathlib.Omega.{arith}
 use borrow.Author.Needs.{needs}
@@ -20,15 +21,6 @@ same-length c = search needs
 returns : tie.Need-returns
 returns c = search needs
 
-refuse-requires-2 : tie.Need-refuse-requires-2
-refuse-requires-2 c κs = search needs
-
-same-length-2 : tie.Need-same-length-2
-same-length-2 c = search needs
-
-returns-2 : tie.Need-returns-2
-returns-2 c = search needs
-
 sub-write-operation : tie.Need-sub-write-operation
 sub-write-operation c = search needs
 
@@ -36,16 +28,16 @@ part-write-operation-start : tie.Need-part-write-operation-start
 part-write-operation-start c = search needs
 
 part-write-operation-end : tie.Need-part-write-operation-end
-part-write-operation-end c = omega (arith, operation-vector _ _ (c .before .before .before .before .before .before .before .read-operation .ensures))
+part-write-operation-end c = omega (arith, operation-vector _ _ (c .before .before .before .before .before .before .read-operation .ensures), operation-within _ _ (c .before .before .before .before .before .before .read-operation .ensures) (c .before .before .if1 .left))
 
 write-operation-requires : tie.Need-write-operation-requires
-write-operation-requires c κs = search needs
+write-operation-requires c κs = omega (arith, operation-vector _ _ (c .before .before .before .before .before .before .before .read-operation .ensures), operation-within _ _ (c .before .before .before .before .before .before .before .read-operation .ensures) (c .before .before .before .if1 .left))
 
-same-length-3 : tie.Need-same-length-3
-same-length-3 c = search needs
+same-length-2 : tie.Need-same-length-2
+same-length-2 c = search needs
 
-returns-3 : tie.Need-returns-3
-returns-3 c = search needs
+returns-2 : tie.Need-returns-2
+returns-2 c = search needs
 
 pub echo-operation-spec : {M : Type 1} → statement M
 echo-operation-spec =
@@ -56,12 +48,9 @@ echo-operation-spec =
     refuse-requires
     same-length
     returns
-    refuse-requires-2
-    same-length-2
-    returns-2
     sub-write-operation
     part-write-operation-start
     part-write-operation-end
     write-operation-requires
-    same-length-3
-    returns-3)
+    same-length-2
+    returns-2)

@@ -1,4 +1,5 @@
 -- `lines_examples::echo::echo_row` meets its contract.
+use Rattle.lines_examples.proofs.Within.{row-within}
 use Rattle.saved.proofs.Vectors.{row-vector}
 use native.Mathlib.Omega.{arith}
 use borrow.Author.Needs.{needs}
@@ -17,15 +18,6 @@ same-length c = search needs
 returns : tie.Need-returns
 returns c = search needs
 
-refuse-requires-2 : tie.Need-refuse-requires-2
-refuse-requires-2 c κs = search needs
-
-same-length-2 : tie.Need-same-length-2
-same-length-2 c = search needs
-
-returns-2 : tie.Need-returns-2
-returns-2 c = search needs
-
 sub-write-row : tie.Need-sub-write-row
 sub-write-row c = search needs
 
@@ -33,16 +25,16 @@ part-write-row-start : tie.Need-part-write-row-start
 part-write-row-start c = search needs
 
 part-write-row-end : tie.Need-part-write-row-end
-part-write-row-end c = omega (arith, row-vector _ _ _ (c .before .before .before .before .before .before .read-row .ensures))
+part-write-row-end c = omega (arith, row-vector _ _ _ (c .before .before .before .before .before .read-row .ensures), row-within _ _ _ (c .before .before .before .before .before .read-row .ensures) (c .before .before .if1 .left))
 
 write-row-requires : tie.Need-write-row-requires
-write-row-requires c κs = search needs
+write-row-requires c κs = omega (arith, row-vector _ _ _ (c .before .before .before .before .before .before .read-row .ensures), row-within _ _ _ (c .before .before .before .before .before .before .read-row .ensures) (c .before .before .before .if1 .left))
 
-same-length-3 : tie.Need-same-length-3
-same-length-3 c = search needs
+same-length-2 : tie.Need-same-length-2
+same-length-2 c = search needs
 
-returns-3 : tie.Need-returns-3
-returns-3 c = search needs
+returns-2 : tie.Need-returns-2
+returns-2 c = search needs
 
 pub echo-row-spec : {M : Type 1} → statement M
 echo-row-spec =
@@ -52,12 +44,9 @@ echo-row-spec =
     refuse-requires
     same-length
     returns
-    refuse-requires-2
-    same-length-2
-    returns-2
     sub-write-row
     part-write-row-start
     part-write-row-end
     write-row-requires
-    same-length-3
-    returns-3)
+    same-length-2
+    returns-2)
