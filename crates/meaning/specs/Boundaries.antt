@@ -6,7 +6,8 @@ use Prim.Native.Nat.{ℕ}
 use lib.IntN.{ℤ, pos, negℤ}
 use lib.ListN.{replicate}
 use Rattle.meaning.specs.Order.{Vector}
-use Rattle.meaning.specs.Operations.{adds, removes, clears, growCounter, upDownCounter, growSet, twoPhaseSet, enableWinsFlag, disableWinsFlag, multiValueRegister, addWinsSet, removeWinsSet}
+use Rattle.meaning.specs.Operations.{Operation, adds, removes, clears, growCounter, upDownCounter, growSet, twoPhaseSet, enableWinsFlag, disableWinsFlag, multiValueRegister, addWinsSet, removeWinsSet}
+use Rattle.meaning.specs.Rows.{Row, settledRow, unsettledRow}
 use Rattle.meaning.specs.Table.{Header, Table, totalBound, isTable}
 use Rattle.meaning.specs.Questions.{list, asksTotal, asksFlag, asksList, asksCount, asksHolds, byRows}
 use Rattle.meaning.specs.Refusals.{Frame, firstOf, refusalOfFrame, refusalOfLocal, refusalOfSettling, questionRefusals, openingRefusals}
@@ -76,6 +77,35 @@ counting grown upAndDown = record {
   rows = [];
 }
 
+-- A table of two stations with D = [2,2], of kinds 3, 4, 5, 8 and 9, with these last vectors and rows.
+abbrev pub holding : List Vector → List Row → Table
+holding last rows = record {
+  header = headerWith 2 0 2 (growSet ∷ twoPhaseSet ∷ enableWinsFlag ∷ addWinsSet ∷ removeWinsSet ∷ []);
+  clock = two 2 2;
+  last = last;
+  totals = replicate 5 (pos 0);
+  rows = rows;
+}
+
+-- The same with the last vectors that its clock asks for.
+abbrev pub keeping : List Row → Table
+keeping rows = holding (two 0 0 ∷ two 0 2 ∷ []) rows
+
+-- An operation of station 1 on one of its objects.
+abbrev pub tagged : ℕ → ℕ → ℕ → Vector → Operation
+tagged object code value vector = record { object = object; code = code; value = value; sender = 1; vector = vector }
+
+-- A settled row of an object, and an unsettled one of station 1 with number 2.
+abbrev pub settledAt : ℕ → ℕ → ℕ → Row
+settledAt object code value = settledRow (tagged object code value [])
+
+abbrev pub unsettledAt : ℕ → ℕ → ℕ → Row
+unsettledAt object code value = unsettledRow (tagged object code value (two 0 2))
+
+-- An unsettled row of a station: 4 in the add-wins set.
+abbrev pub addedBy : ℕ → Vector → Row
+addedBy sender vector = unsettledRow (record { object = 3; code = adds; value = 4; sender = sender; vector = vector })
+
 -- The number that a local operation gets; 0 is none.
 abbrev pub issued : Table → ℕ → ℕ → ℕ → ℕ
 issued table object code value = refusalOfLocal table (record { object = object; code = code; value = value })
@@ -96,6 +126,10 @@ opening header = firstOf (openingRefusals 1 1 header)
 -- The numbers that the codes 0 to 4 get at an object of the fresh table.
 abbrev pub codesAt : ℕ → ℕ → List ℕ
 codesAt object value = map (λ (code : ℕ). issued wide object code value) (0 ∷ adds ∷ removes ∷ clears ∷ 4 ∷ [])
+
+-- The numbers that these values get with a code at an object of the fresh table.
+abbrev pub valuesAt : ℕ → List ℕ → ℕ → List ℕ
+valuesAt code values object = map (issued wide object code) values
 
 -- The numbers that the questions 0 to 6 get at an object of the fresh table.
 abbrev pub questionsAt : ℕ → List ℕ
@@ -120,13 +154,15 @@ pub record Boundaries : Type 0 where
   pub codes-of-8-and-9 : (codesAt 7 0 ∷ codesAt 8 0 ∷ []) ≡ ((4 ∷ 0 ∷ 0 ∷ 0 ∷ 4 ∷ []) ∷ (4 ∷ 0 ∷ 0 ∷ 0 ∷ 4 ∷ []) ∷ [])
   -- "Amounts are 1 to 1,000,000.": of an increase, and of a decrease.
   pub amounts : map (issued wide 0 adds) (0 ∷ 1 ∷ 1000000 ∷ 1000001 ∷ []) ≡ (4 ∷ 0 ∷ 0 ∷ 4 ∷ [])
+  pub increases : map (issued wide 1 adds) (0 ∷ 1 ∷ 1000000 ∷ 1000001 ∷ []) ≡ (4 ∷ 0 ∷ 0 ∷ 4 ∷ [])
   pub decreases : map (issued wide 1 removes) (0 ∷ 1 ∷ 1000000 ∷ 1000001 ∷ []) ≡ (4 ∷ 0 ∷ 0 ∷ 4 ∷ [])
   -- "Flags and clears carry value 0."
-  pub enables : map (issued wide 4 adds) (0 ∷ 1 ∷ []) ≡ (0 ∷ 4 ∷ [])
-  pub disables : map (issued wide 5 removes) (0 ∷ 1 ∷ []) ≡ (0 ∷ 4 ∷ [])
-  pub clearing : map (issued wide 7 clears) (0 ∷ 1 ∷ []) ≡ (0 ∷ 4 ∷ [])
+  pub enables : map (valuesAt adds (0 ∷ 1 ∷ [])) (4 ∷ 5 ∷ []) ≡ replicate 2 (0 ∷ 4 ∷ [])
+  pub disables : map (valuesAt removes (0 ∷ 1 ∷ [])) (4 ∷ 5 ∷ []) ≡ replicate 2 (0 ∷ 4 ∷ [])
+  pub clearing : map (valuesAt clears (0 ∷ 1 ∷ [])) (6 ∷ 7 ∷ 8 ∷ []) ≡ replicate 3 (0 ∷ 4 ∷ [])
   -- "Other values are any 32-bit number, 0 included."
-  pub values : map (issued wide 7 adds) (0 ∷ 65536 ∷ 4294967295 ∷ 4294967296 ∷ []) ≡ (0 ∷ 0 ∷ 0 ∷ 4 ∷ [])
+  pub values : map (valuesAt adds (0 ∷ 65536 ∷ 4294967295 ∷ 4294967296 ∷ [])) (2 ∷ 3 ∷ 6 ∷ 7 ∷ 8 ∷ []) ≡ replicate 5 (0 ∷ 0 ∷ 0 ∷ 4 ∷ [])
+  pub removed-values : map (valuesAt removes (0 ∷ 65536 ∷ 4294967295 ∷ 4294967296 ∷ [])) (3 ∷ 7 ∷ 8 ∷ []) ≡ replicate 3 (0 ∷ 0 ∷ 0 ∷ 4 ∷ [])
   -- 3: "object not declared".
   pub objects : map (λ (object : ℕ). issued wide object adds 0) (8 ∷ 9 ∷ []) ≡ (0 ∷ 3 ∷ [])
   -- 9: "own number is 4,294,967,295 already".
@@ -197,6 +233,74 @@ pub record Boundaries : Type 0 where
       ≡ (true ∷ false ∷ true ∷ false ∷ [])
   pub totals-of-kind-1 :
       map (λ (total : ℤ). isTable (counting total (pos 0))) (pos 3000000 ∷ pos 3000001 ∷ negℤ (pos 1) ∷ []) ≡ (true ∷ false ∷ false ∷ [])
+  -- The last vectors: at or below D, with D[k] in entry k; all 0 at the own station.
+  pub lasts :
+      map (λ (last : List Vector). isTable (holding last [])) (
+      (two 0 0 ∷ two 0 2 ∷ [])
+      ∷ (two 0 0 ∷ two 2 2 ∷ [])
+      ∷ (two 0 0 ∷ two 3 2 ∷ [])
+      ∷ (two 0 0 ∷ two 0 1 ∷ [])
+      ∷ (two 0 1 ∷ two 0 2 ∷ [])
+      ∷ []
+      )
+      ≡ (true ∷ true ∷ false ∷ false ∷ false ∷ [])
+  -- Rows at most capacity, strictly in row order: object, value, code, settled first, sender, number.
+  pub orders :
+      map (λ (rows : List Row). isTable (keeping rows)) (
+      (settledAt 0 adds 4 ∷ settledAt 0 adds 9 ∷ [])
+      ∷ (settledAt 0 adds 9 ∷ settledAt 0 adds 4 ∷ [])
+      ∷ (settledAt 0 adds 4 ∷ settledAt 0 adds 4 ∷ [])
+      ∷ (settledAt 0 adds 9 ∷ settledAt 3 adds 4 ∷ [])
+      ∷ (settledAt 3 adds 4 ∷ settledAt 0 adds 9 ∷ [])
+      ∷ (settledAt 4 removes 4 ∷ settledAt 4 adds 9 ∷ [])
+      ∷ (settledAt 4 adds 9 ∷ settledAt 4 removes 4 ∷ [])
+      ∷ (settledAt 4 removes 4 ∷ settledAt 4 adds 4 ∷ [])
+      ∷ (settledAt 0 adds 4 ∷ settledAt 0 adds 5 ∷ settledAt 0 adds 9 ∷ [])
+      ∷ []
+      )
+      ≡ (true ∷ false ∷ false ∷ true ∷ false ∷ true ∷ false ∷ false ∷ false ∷ [])
+  pub orders-of-tags :
+      map (λ (rows : List Row). isTable (keeping rows)) (
+      (settledAt 3 adds 4 ∷ addedBy 0 (two 1 0) ∷ [])
+      ∷ (addedBy 0 (two 1 0) ∷ settledAt 3 adds 4 ∷ [])
+      ∷ (addedBy 0 (two 2 0) ∷ addedBy 1 (two 0 1) ∷ [])
+      ∷ (addedBy 1 (two 0 1) ∷ addedBy 0 (two 2 0) ∷ [])
+      ∷ (addedBy 1 (two 0 1) ∷ addedBy 1 (two 0 2) ∷ [])
+      ∷ (addedBy 1 (two 0 2) ∷ addedBy 1 (two 0 1) ∷ [])
+      ∷ []
+      )
+      ≡ (true ∷ false ∷ true ∷ false ∷ true ∷ false ∷ [])
+  -- "code storable in its kind", "kinds 3 and 4 settled only", "kind 4 one row a value", "value 0 in flags", "object declared".
+  pub contents :
+      map (λ (rows : List Row). isTable (keeping rows)) (
+      (unsettledAt 0 adds 4 ∷ [])
+      ∷ (settledAt 0 removes 4 ∷ [])
+      ∷ (settledAt 1 removes 4 ∷ [])
+      ∷ (settledAt 1 adds 4 ∷ settledAt 1 removes 4 ∷ [])
+      ∷ (settledAt 2 adds 0 ∷ [])
+      ∷ (settledAt 2 adds 1 ∷ [])
+      ∷ (settledAt 3 removes 4 ∷ [])
+      ∷ (settledAt 3 clears 0 ∷ [])
+      ∷ (settledAt 4 removes 4 ∷ [])
+      ∷ (settledAt 5 adds 4 ∷ [])
+      ∷ []
+      )
+      ≡ (false ∷ false ∷ true ∷ false ∷ true ∷ false ∷ false ∷ false ∷ true ∷ false ∷ [])
+  -- "an unsettled row's sender in the group, its vector at or below D and its number at least 1; settled rows without a tag"
+  pub tags :
+      map (λ (row : Row). isTable (keeping (row ∷ []))) (
+      unsettledAt 3 adds 4
+      ∷ unsettledRow (tagged 3 adds 4 (two 2 2))
+      ∷ unsettledRow (tagged 3 adds 4 (two 3 2))
+      ∷ unsettledRow (tagged 3 adds 4 (two 0 3))
+      ∷ unsettledRow (tagged 3 adds 4 (two 1 0))
+      ∷ unsettledRow (tagged 3 adds 4 (three 0 1 0))
+      ∷ addedBy 2 (two 1 1)
+      ∷ record { settled = true; operation = tagged 3 adds 4 [] }
+      ∷ record { settled = true; operation = tagged 3 adds 4 (two 0 1) }
+      ∷ []
+      )
+      ≡ (true ∷ true ∷ false ∷ false ∷ false ∷ false ∷ false ∷ false ∷ false ∷ [])
   -- "With N = 1, Low is D": what a station alone issues is stable at once.
   pub alone : fromOpening (headerWith 1 0 4 (addWinsSet ∷ [])) (ours 0 adds 5 ∷ settles 1 ∷ []) .table .rows ≡ (settledOf adds 5 ∷ [])
   -- The tables above are tables by the rules.
@@ -212,11 +316,13 @@ boundaries = record {
   codes-of-7 = refl;
   codes-of-8-and-9 = refl;
   amounts = refl;
+  increases = refl;
   decreases = refl;
   enables = refl;
   disables = refl;
   clearing = refl;
   values = refl;
+  removed-values = refl;
   objects = refl;
   own-numbers = refl;
   room-for-none = refl;
@@ -250,6 +356,11 @@ boundaries = record {
   bound = refl;
   totals = refl;
   totals-of-kind-1 = refl;
+  lasts = refl;
+  orders = refl;
+  orders-of-tags = refl;
+  contents = refl;
+  tags = refl;
   alone = refl;
   by-the-rules = refl;
 }

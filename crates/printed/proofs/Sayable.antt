@@ -10,4 +10,4 @@ use Rattle.lines.proofs.Known.{known, sound}
 use Rattle.writing.specs.Writing.{Writable}
 
 pub sayable : (line : Line) → sound line ≡ true → (fields more : List ℕ) → length fields ≡ length (line .widths) → length more < 256 → Writable (headOf line) (line .typeByte ∷ fields) (line .each) more
-sayable line ok fields more e h = record { head = known line ok .head; matched = omega arith; slim = known line ok .slim; counted = h }
+sayable line ok fields more e h = record { head = known line ok .head; matched = omega arith; slim = known line ok .slim; counted = omega arith }

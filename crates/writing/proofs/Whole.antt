@@ -36,8 +36,8 @@ line-laid space bytes h =
     rw (size, front, drop-cons space (2 * length bytes) 0 h, append-assoc (digitsOf bytes) (lf ∷ []) (drop (suc (2 * length bytes)) space)) (set-at (digitsOf bytes) _ (drop (suc (2 * length bytes)) space) lf (2 * length bytes) (length-digits bytes))
 
 module _ (space widths fields : List ℕ) (width : ℕ) (numbers : List ℕ) (W : Writable widths fields width numbers) where
-  each-small : width * length numbers ≤ 1020
-  each-small = let few : length numbers ≤ 255 = omega (arith, W .counted) in omega (arith, mul-le-mul (W .slim) few)
+  each-small : width * length numbers ≤ 262140
+  each-small = let few : length numbers ≤ 65535 = omega (arith, W .counted) in omega (arith, mul-le-mul (W .slim) few)
 
   size-of-line : length (lineBytes widths fields width numbers) ≡ lengthOf widths + width * length numbers
   unfolding lineBytes
