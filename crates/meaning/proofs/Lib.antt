@@ -4,6 +4,7 @@ pub mod Vectors
 pub mod Ascending
 pub mod OneValue
 pub mod RowLaws
+pub mod RowOrder
 pub mod KindGroups
 pub mod Survival
 pub mod Standing

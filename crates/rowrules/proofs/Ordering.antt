@@ -65,6 +65,30 @@ key-read n a R =
     let number : numberOf (rowOf a .operation) ≡ getD a 6 0 = ap (λ (l : List ℕ). getD l 6 0) (R .written) in
     rw (number, word) refl
 
+three : (c : List ℕ) → 7 ≤ length c → take 3 c ≡ getD c 0 0 ∷ getD c 1 0 ∷ getD c 2 0 ∷ []
+three c h = sym (take-take 3 7 c (omega arith)) ∙ ap (take 3) (seven c h)
+
+-- the first three words of two rows tell whether they are of one object and value
+pub same-words : (a b : List ℕ) → 7 ≤ length a → 7 ≤ length b → getD a 2 0 < 4294967296 → getD b 2 0 < 4294967296 → same (take 3 a) (take 3 b) ≡ sameValue (rowOf a .operation) (rowOf b)
+unfolding sameValue on
+same-words a b la lb fa fb =
+    let o = eqb (getD a 0 0) (getD b 0 0) in
+    let h = eqb (getD a 1 0) (getD b 1 0) in
+    let l = eqb (getD a 2 0) (getD b 2 0) in
+    let u = getD a 1 0 * 4294967296 + getD a 2 0 in
+    let v = getD b 1 0 * 4294967296 + getD b 2 0 in
+    rw (three a la, three b lb) (iff (o && (h && (l && true))) (eqb (getD b 0 0) (getD a 0 0) && eqb v u)
+    (λ e.
+    let r = and-right o (h && (l && true)) e in
+    let r1 = and-right h (l && true) r in
+    and-both (eqb (getD b 0 0) (getD a 0 0)) (eqb v u)
+    (eq-eqb (getD b 0 0) (getD a 0 0) (sym (eqb-true (getD a 0 0) (getD b 0 0) (and-left o (h && (l && true)) e))))
+    (eq-eqb v u (omega (arith, eqb-true (getD a 1 0) (getD b 1 0) (and-left h (l && true) r), eqb-true (getD a 2 0) (getD b 2 0) (and-left l true r1)))))
+    (λ e.
+    let x = eqb-true (getD b 0 0) (getD a 0 0) (and-left (eqb (getD b 0 0) (getD a 0 0)) (eqb v u) e) in
+    let y = eqb-true v u (and-right (eqb (getD b 0 0) (getD a 0 0)) (eqb v u) e) in
+    and-both o (h && (l && true)) (eq-eqb (getD a 0 0) (getD b 0 0) (sym x)) (and-both h (l && true) (eq-eqb (getD a 1 0) (getD b 1 0) (omega arith)) (and-both l true (eq-eqb (getD a 2 0) (getD b 2 0) (omega arith)) refl))))
+
 module _ (n : ℕ) (a b : List ℕ) (A : Readable n a) (B : Readable n b) where
   pub lower-row : lowerKey (take 7 a) (take 7 b) ≡ lowerRow (rowOf a) (rowOf b)
   unfolding lowerRow
@@ -72,30 +96,8 @@ module _ (n : ℕ) (a b : List ℕ) (A : Readable n a) (B : Readable n b) where
       rw (seven a (A .long), seven b (B .long), key-read n a A, key-read n b B)
       (ap (λ (t : Bool). ltb (getD a 0 0) (getD b 0 0) || (eqb (getD a 0 0) (getD b 0 0) && t)) (two-words (getD a 1 0) (getD a 2 0) (getD b 1 0) (getD b 2 0) (tailIn a) (tailIn b) (A .low) (B .low)))
 
-  three : (c : List ℕ) → Readable n c → take 3 c ≡ getD c 0 0 ∷ getD c 1 0 ∷ getD c 2 0 ∷ []
-  three c C = sym (take-take 3 7 c (omega arith)) ∙ ap (take 3) (seven c (C .long))
-
   pub same-value : same (take 3 a) (take 3 b) ≡ sameValue (rowOf a .operation) (rowOf b)
-  unfolding sameValue on
-  same-value =
-      let o = eqb (getD a 0 0) (getD b 0 0) in
-      let h = eqb (getD a 1 0) (getD b 1 0) in
-      let l = eqb (getD a 2 0) (getD b 2 0) in
-      let u = getD a 1 0 * 4294967296 + getD a 2 0 in
-      let v = getD b 1 0 * 4294967296 + getD b 2 0 in
-      rw (three a A, three b B) (iff (o && (h && (l && true))) (eqb (getD b 0 0) (getD a 0 0) && eqb v u)
-      (λ e.
-      let r = and-right o (h && (l && true)) e in
-      let r1 = and-right h (l && true) r in
-      and-both (eqb (getD b 0 0) (getD a 0 0)) (eqb v u)
-      (eq-eqb (getD b 0 0) (getD a 0 0) (sym (eqb-true (getD a 0 0) (getD b 0 0) (and-left o (h && (l && true)) e))))
-      (eq-eqb v u (omega (arith, eqb-true (getD a 1 0) (getD b 1 0) (and-left h (l && true) r), eqb-true (getD a 2 0) (getD b 2 0) (and-left l true r1)))))
-      (λ e.
-      let x = eqb-true (getD b 0 0) (getD a 0 0) (and-left (eqb (getD b 0 0) (getD a 0 0)) (eqb v u) e) in
-      let y = eqb-true v u (and-right (eqb (getD b 0 0) (getD a 0 0)) (eqb v u) e) in
-      let fa = A .low in
-      let fb = B .low in
-      and-both o (h && (l && true)) (eq-eqb (getD a 0 0) (getD b 0 0) (sym x)) (and-both h (l && true) (eq-eqb (getD a 1 0) (getD b 1 0) (omega arith)) (and-both l true (eq-eqb (getD a 2 0) (getD b 2 0) (omega arith)) refl))))
+  same-value = same-words a b (A .long) (B .long) (A .low) (B .low)
 
 -- a row between two of one object and value is of that object and value
 lower-le : (x y : ℕ) (p q : List ℕ) → lowerKey (x ∷ p) (y ∷ q) ≡ true → x ≤ y

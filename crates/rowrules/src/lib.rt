@@ -60,7 +60,7 @@ pub fn all_zero(words: &[u32]) -> bool
 }
 
 // The kind of an object, or none where it is not declared.
-fn kind_of(kinds: &[u32], object: u32) -> u32
+pub fn kind_of(kinds: &[u32], object: u32) -> u32
     ensures { λ r. ⌜ r ≡ getD (now (kinds .entry)) object 0 ⌝ }
 {
     let at = tags::wide(object);

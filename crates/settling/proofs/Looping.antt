@@ -1,0 +1,102 @@
+-- The loop of a pass, with the width of a row in hand.
+use Prim.Native.Nat.{ℕ, zero, suc, _+_, _-_, _*_, _≤_, _<_}
+use mathlib.Core.Path.{_≡_, refl, sym, ap, _∙_, subst}
+use mathlib.Core.Logic.{_⊎_}
+use mathlib.Core.List.{List, [], _∷_, _++_, map}
+use native.Mathlib.Omega.{arith}
+use lib.ListN.{length, take, drop, replicate}
+use lib.Seq.{paste}
+use Rattle.meaning.specs.Rows.{Row, settledRow}
+use Rattle.layout.specs.Words.{pieces, flat, padded}
+use Rattle.layout.specs.Layout.{rowOf, rowWords}
+use Rattle.rows.proofs.Dropping.{next-size}
+use Rattle.settling.specs.declared.Step.{Step}
+use Rattle.settling.specs.declared.Step.the-variants.{Keeps, Settles, Drops, DropsBoth}
+use Rattle.settling.specs.Stepping.{stepFor}
+use Rattle.settling.specs.Passing.{kindAt, Held, rowsThen, stepsThen, closedUp}
+use Rattle.settling.proofs.Passing.{Passing, passing-start, passing-keep, passing-settle, passing-drop, both-more, passing-both, held-ahead, here-room, row-spelt, passing-steps, passing-count, passing-done}
+
+-- Beside the pass: the width, and bounds that a sum of places asks for.
+pub record Loop (kinds low : List ℕ) (limit : ℕ) (s₀ : List ℕ) (n w count : ℕ) (s : List ℕ) (from to more left taken : ℕ) : Type 0 where
+  pub wide : w ≡ 7 + n
+  pub few : n ≤ 16
+  pub within : from ≤ length s
+  pub below : to ≤ from
+  pub fewer : left + more ≤ count
+  pub word : count < 4294967296
+  pub pass : Passing kinds low limit s₀ n count s from to more left taken
+
+looped : (kinds low : List ℕ) (limit : ℕ) (s₀ : List ℕ) (n w count : ℕ) (s : List ℕ) (from to more left taken : ℕ) → w ≡ 7 + n → n ≤ 16 → count < 4294967296 → Passing kinds low limit s₀ n count s from to more left taken → Loop kinds low limit s₀ n w count s from to more left taken
+looped kinds low limit s₀ n w count s from to more left taken e f g P =
+    record { wide = e; few = f; within = omega (arith, P .place .size, P .place .room); below = P .below; fewer = P .fewer; word = g; pass = P }
+
+pub loop-start : (kinds low : List ℕ) (limit : ℕ) (s : List ℕ) (n w count more : ℕ) → w ≡ 7 + n → n ≤ 16 → count * (7 + n) ≤ length s → Held kinds n (pieces (7 + n) count s) → more ≡ count → more < 4294967296 → Loop kinds low limit s n w more s 0 0 more 0 0
+loop-start kinds low limit s n w count more e f h H g k = looped kinds low limit s n w more s 0 0 more 0 0 e f k (rw g (passing-start kinds low limit s n count h H))
+
+module _ (kinds low : List ℕ) (limit : ℕ) (s₀ : List ℕ) (n w count : ℕ) (s : List ℕ) (from to more left taken : ℕ) (L : Loop kinds low limit s₀ n w count s from to more left taken) (some : 0 < more) where
+  abbrev D : Passing kinds low limit s₀ n count s from to more left taken
+  D = L .pass
+
+  next : (s′ : List ℕ) (from′ to′ more′ left′ taken′ : ℕ) → Passing kinds low limit s₀ n count s′ from′ to′ more′ left′ taken′ → Loop kinds low limit s₀ n w count s′ from′ to′ more′ left′ taken′
+  next s′ from′ to′ more′ left′ taken′ P = looped kinds low limit s₀ n w count s′ from′ to′ more′ left′ taken′ (L .wide) (L .few) (L .word) P
+
+  pub row-within : from + (7 + n) ≤ length s
+  row-within = here-room kinds low limit s₀ n count s from to more left taken D some
+
+  pub copy-within : from + w ≤ length s
+  copy-within = rw (L .wide) row-within
+
+  pub copy-again : (s₁ : List ℕ) → length s₁ ≡ length s → from + w ≤ length s₁
+  copy-again s₁ e = rw e copy-within
+
+  -- what the test of a row asks
+  pub kept-at : to ≡ left * (7 + n)
+  kept-at = D .kept
+
+  pub rest-within : from + (7 + n) + (more - 1) * (7 + n) ≤ length s
+  rest-within = omega (arith, next-size s (7 + n) count from more (D .place) some, D .place .room)
+
+  pub rows-held : Held kinds n (pieces (7 + n) left s ++ (take (7 + n) (drop from s) ∷ pieces (7 + n) (more - 1) (drop (from + (7 + n)) s)))
+  rows-held = held-ahead kinds low limit s₀ n count s from to more left taken D some
+
+  pub here-spelt : rowWords n (rowOf (take (7 + n) (drop from s))) ≡ take (7 + n) (drop from s)
+  here-spelt = row-spelt kinds low n (pieces (7 + n) left s) (pieces (7 + n) (more - 1) (drop (from + (7 + n)) s)) (take (7 + n) (drop from s)) rows-held
+
+  module _ (r : Step) (e : r ≡ stepFor (kindAt kinds) low (map rowOf (pieces (7 + n) left s)) (rowOf (take (7 + n) (drop from s))) (map rowOf (pieces (7 + n) (more - 1) (drop (from + (7 + n)) s)))) where
+    pub loop-keep : (s′ : List ℕ) → s′ ≡ paste s to (drop from s) w → r ≡ Keeps → Loop kinds low limit s₀ n w count s′ (from + w) (to + w) (more - 1) (left + 1) taken
+    loop-keep s′ p k = next s′ (from + w) (to + w) (more - 1) (left + 1) taken (rw (L .wide) (passing-keep kinds low limit s₀ n count s from to more left taken D some s′ (rw (L .wide) at p) r e k))
+
+    module _ (less : taken < limit) where
+      pub loop-settle : (s₁ s′ : List ℕ) → s₁ ≡ take from s ++ (rowWords n (settledRow (rowOf (take (7 + n) (drop from s)) .operation)) ++ drop (from + (7 + n)) s) → s′ ≡ paste s₁ to (drop from s₁) w → r ≡ Settles →
+          Loop kinds low limit s₀ n w count s′ (from + w) (to + w) (more - 1) (left + 1) (taken + 1)
+      loop-settle s₁ s′ f p k = next s′ (from + w) (to + w) (more - 1) (left + 1) (taken + 1) (rw (L .wide) (passing-settle kinds low limit s₀ n count s from to more left taken D some less r e k s₁ s′ f (rw (L .wide) at p)))
+
+      pub loop-drop : r ≡ Drops → Loop kinds low limit s₀ n w count s (from + w) to (more - 1) left (taken + 1)
+      loop-drop k = next s (from + w) to (more - 1) left (taken + 1) (rw (L .wide) (passing-drop kinds low limit s₀ n count s from to more left taken D some less r e k))
+
+      pub two-more : r ≡ DropsBoth → 1 ≤ more - 1
+      two-more k = both-more kinds low limit s₀ n count s from to more left taken D some less r e k
+
+      pub loop-both : r ≡ DropsBoth → Loop kinds low limit s₀ n w count s (from + w + w) to (more - 1 - 1) left (taken + 1)
+      loop-both k = next s (from + w + w) to (more - 1 - 1) left (taken + 1) (rw (L .wide) (passing-both kinds low limit s₀ n count s from to more left taken D some less r e k))
+
+-- the end
+module _ (kinds low : List ℕ) (limit : ℕ) (s₀ : List ℕ) (n w count : ℕ) (s : List ℕ) (from to more left taken : ℕ) (L : Loop kinds low limit s₀ n w count s from to more left taken) where
+  pub close-within : from + more * w ≤ length s
+  close-within = rw (L .wide) (omega (arith, L .pass .place .size, L .pass .place .room))
+
+  module _ (rows : ℕ) (m : count ≡ rows) (stop : (limit ≤ taken) ⊎ (more ≤ 0)) where
+    abbrev R₀ : List Row
+    R₀ = map rowOf (pieces (7 + n) rows s₀)
+
+    at-rows : Passing kinds low limit s₀ n rows s from to more left taken
+    at-rows = subst (λ (k : ℕ). Passing kinds low limit s₀ n k s from to more left taken) m (L .pass)
+
+    pub loop-count : (k : ℕ) → k ≡ left + more → k ≡ length (rowsThen kinds low limit R₀)
+    loop-count k e = e ∙ passing-count kinds low limit s₀ n rows s from to more left taken at-rows stop
+
+    pub loop-steps : (k : ℕ) → k ≡ taken → k ≡ stepsThen kinds low limit R₀
+    loop-steps k e = e ∙ passing-steps kinds low limit s₀ n rows s from to more left taken at-rows stop
+
+    pub loop-done : (s′ : List ℕ) → s′ ≡ closedUp s from to (more * w) → s′ ≡ padded (rows * (7 + n)) (flat (map (rowWords n) (rowsThen kinds low limit R₀))) ++ drop (rows * (7 + n)) s₀
+    loop-done s′ f = passing-done kinds low limit s₀ n rows s from to more left taken at-rows stop s′ (rw (L .wide) at f)

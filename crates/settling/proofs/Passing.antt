@@ -1,0 +1,503 @@
+-- A pass over rows in words: what its loop knows at its head, and how it goes on. `more` rows are still to be read, from place `from`;
+-- `left` rows are kept, up to place `to`; `taken` steps were taken.
+use Prim.Native.Nat.{ℕ, zero, suc, _+_, _-_, _*_, _≤_, _<_}
+use mathlib.Core.Path.{_≡_, refl, sym, ap, _∙_, subst}
+use mathlib.Core.Bool.{Bool, true, false, not, _&&_, false≢true}
+use mathlib.Core.Logic.{_⊎_, inl, inr}
+use mathlib.Core.List.{List, [], _∷_, _++_, map, append-assoc, append-nil}
+use native.Mathlib.Omega.{arith}
+use native.Mathlib.Nat.{suc-mul, zero-mul, mul-le-mul-right}
+use native.Mathlib.Numerals.{add-one}
+use lib.ListN.{length, getD, take, drop, replicate, length-drop, length-append, take-append-drop, length-map}
+use lib.Seq.{paste, getD-take, getD-drop, take-all, take-at, drop-at, take-append-le, length-take-le, drop-drop, drop-paste, take-paste, length-paste, take-take, take-add}
+use Rattle.meaning.specs.Tests.{any}
+use Rattle.meaning.specs.Order.{Vector}
+use Rattle.meaning.specs.Operations.{Operation, numberOf}
+use Rattle.meaning.specs.Rows.{Row, unsettledRow, settledRow}
+use Rattle.meaning.specs.Settling.{due, becomesSettled, droppedWith, stepAt, settledRows, stepsTaken}
+use Rattle.meaning.specs.Table.{Table, kindIn, isTable}
+use Rattle.meaning.specs.Calls.{withRows}
+use Rattle.meaning.proofs.Tests.{cases, clash, and-left, not-holds}
+use Rattle.layout.specs.Words.{pieces, flat, padded}
+use Rattle.layout.specs.Layout.{rowOf, rowWords}
+use Rattle.layout.proofs.Pieces.{Wide, Each, map-back, length-pieces, flat-pieces, wide-pieces, pieces-at}
+use Rattle.layout.proofs.RowWords.{row-read, length-row}
+use Rattle.layout.proofs.Whole.{back-each}
+use Rattle.moves.proofs.Moving.{drop-more}
+use Rattle.rows.proofs.Dropping.{Place, place-start, next-size, row-room, place-next, ahead}
+use Rattle.settling.specs.declared.Neighbour.{Neighbour}
+use Rattle.settling.specs.declared.Step.{Step}
+use Rattle.settling.specs.declared.Step.the-variants.{Keeps, Settles, Drops, DropsBoth}
+use Rattle.settling.specs.Stepping.{pick, stepAmong, stepFor, besideNext, besideLast, decided}
+use Rattle.settling.specs.Passing.{kindAt, Held, rowsThen, stepsThen, closedUp}
+use Rattle.settling.proofs.Testing.{pieces-last, map-last, row-at}
+use Rattle.settling.proofs.Turns.{Left, left-start, left-keep, left-step, left-done}
+use Rattle.settling.proofs.Ruled.{decides-in, settles-in, drops-in, both-in, some-in}
+
+-- what a step says of the row
+abbrev isKeeps : Step → Bool
+isKeeps Keeps = true
+isKeeps Settles = false
+isKeeps Drops = false
+isKeeps DropsBoth = false
+
+among-keeps : (b d : Bool) → isKeeps (pick b Settles (pick d DropsBoth Drops)) ≡ false
+among-keeps true d = refl
+among-keeps false true = refl
+among-keeps false false = refl
+
+module _ (kindOf : ℕ → ℕ) (low : Vector) (above : List Row) (row : Row) (below : List Row) (r : Step) (e : r ≡ stepFor kindOf low above row below) where
+  abbrev among : Step
+  among = stepAmong (kindOf (row .operation .object)) (row .operation) above below
+
+  kept-not-due : r ≡ Keeps → due low row ≡ false
+  unfolding stepFor stepAmong
+  kept-not-due k = cases (due low row)
+      (λ d. let f : r ≡ among = e ∙ rw d refl in absurd (false≢true (sym (among-keeps (becomesSettled (kindOf (row .operation .object)) (row .operation) (above ++ below)) (any (droppedWith (kindOf (row .operation .object)) (row .operation) (above ++ below)) below)) ∙ ap isKeeps (sym f ∙ k))))
+      (λ d. d)
+
+  step-due : isKeeps r ≡ false → (due low row ≡ true) × (r ≡ among)
+  unfolding stepFor
+  step-due n = cases (due low row)
+      (λ d. (d, e ∙ rw d refl))
+      (λ d. let f : r ≡ Keeps = e ∙ rw d refl in clash (isKeeps r) (ap isKeeps f) n)
+
+-- an unsettled row
+unsettled-is : (row : Row) → row .settled ≡ false → row ≡ unsettledRow (row .operation)
+unsettled-is row e = ap (λ (b : Bool). record { settled = b; operation = row .operation }) e
+
+due-unsettled : (low : Vector) (row : Row) → due low row ≡ true → row .settled ≡ false
+unfolding due
+due-unsettled low row h = not-holds (row .settled) (and-left (not (row .settled)) _ h)
+
+settled-not-due : (low : Vector) (u : Operation) → due low (settledRow u) ≡ false
+unfolding due
+settled-not-due low u = refl
+
+-- rows in words, one after the other
+map-append : (l m : List (List ℕ)) → map rowOf (l ++ m) ≡ map rowOf l ++ map rowOf m
+map-append [] m = refl
+map-append (x ∷ l) m = ap (λ (k : List Row). rowOf x ∷ k) (map-append l m)
+
+module _ (P : List ℕ → Type 0) where
+  each-swap : (l m : List (List ℕ)) (x y : List ℕ) → Each P (l ++ (x ∷ m)) → P y → Each P (l ++ (y ∷ m))
+  each-swap [] m x y h p = (p, h .1)
+  each-swap (z ∷ l) m x y h p = (h .0, each-swap l m x y (h .1) p)
+
+  each-without : (l m : List (List ℕ)) (x : List ℕ) → Each P (l ++ (x ∷ m)) → Each P (l ++ m)
+  each-without [] m x h = h .1
+  each-without (z ∷ l) m x h = (h .0, each-without l m x (h .1))
+
+  each-mid : (l m : List (List ℕ)) (x : List ℕ) → Each P (l ++ (x ∷ m)) → P x
+  each-mid [] m x h = h .0
+  each-mid (z ∷ l) m x h = each-mid l m x (h .1)
+
+-- the words of a row that is settled where it stands
+settled-words : (n zeros : ℕ) (ws : List ℕ) → zeros ≡ 3 + n → rowWords n (rowOf ws) ≡ ws → rowWords n (settledRow (rowOf ws .operation)) ≡ take 4 ws ++ replicate zeros 0
+unfolding numberOf
+settled-words n zeros ws f e =
+    let z : n - 0 ≡ n = omega arith in
+    let k : zeros ≡ suc (suc (suc n)) = omega arith in
+    rw (z, k) (ap (λ (l : List ℕ). take 4 l ++ (0 ∷ 0 ∷ 0 ∷ replicate n 0)) e)
+
+-- rows that may stand in a table, and the step at one of them
+module _ (kinds low : List ℕ) (n : ℕ) (ls ms : List (List ℕ)) (ws : List ℕ) (H : Held kinds n (ls ++ (ws ∷ ms))) where
+  abbrev above : List Row
+  above = map rowOf ls
+
+  abbrev below : List Row
+  below = map rowOf ms
+
+  abbrev u : Operation
+  u = rowOf ws .operation
+
+  abbrev kind : ℕ
+  kind = kindIn (H .table .header) (u .object)
+
+  rows-apart : map rowOf (ls ++ (ws ∷ ms)) ≡ above ++ (rowOf ws ∷ below)
+  rows-apart = map-append ls (ws ∷ ms)
+
+  each : Each (λ (x : List ℕ). rowWords n (rowOf x) ≡ x) (ls ++ (ws ∷ ms))
+  each = back-each rowOf (rowWords n) (ls ++ (ws ∷ ms)) (H .spelt)
+
+  pub row-spelt : rowWords n (rowOf ws) ≡ ws
+  row-spelt = each-mid (λ (x : List ℕ). rowWords n (rowOf x) ≡ x) ls ms ws each
+
+  module _ (h : due low (rowOf ws) ≡ true) where
+    ruled : isTable (withRows (H .table) (above ++ (unsettledRow u ∷ below))) ≡ true
+    ruled = subst (λ (l : List Row). isTable (withRows (H .table) l) ≡ true) (rows-apart ∙ ap (λ (r : Row). above ++ (r ∷ below)) (unsettled-is (rowOf ws) (due-unsettled low (rowOf ws) h))) (H .by-rules)
+
+    same-kind : kindAt kinds (u .object) ≡ kind
+    same-kind = sym (H .kinds-are (u .object))
+
+    pub decides-words : stepAmong (kindAt kinds (u .object)) u above below ≡ decided (kindAt kinds (u .object)) (u .code) (besideLast u above) (besideNext u below)
+    decides-words = rw same-kind (decides-in (H .table) above below u ruled)
+
+    held-by : (l : List (List ℕ)) (rs : List Row) → map rowOf l ≡ rs → isTable (withRows (H .table) rs) ≡ true → Each (λ (x : List ℕ). rowWords n (rowOf x) ≡ x) l → Held kinds n l
+    held-by l rs e t p = record { table = H .table; kinds-are = H .kinds-are; by-rules = subst (λ (k : List Row). isTable (withRows (H .table) k) ≡ true) (sym e) t; spelt = map-back rowOf (rowWords n) l p }
+
+    -- the row becomes settled
+    abbrev settledHere : List ℕ
+    settledHere = rowWords n (settledRow u)
+
+    reads-settled : rowOf settledHere ≡ settledRow u
+    reads-settled = row-read n (settledRow u) (record { long = refl })
+
+    pub settles-words : Settles ≡ stepAmong (kindAt kinds (u .object)) u above below → (stepAt (kindAt kinds (u .object)) above u below ≡ above ++ (settledRow u ∷ below)) × Held kinds n (ls ++ (settledHere ∷ ms))
+    settles-words e =
+        let r = settles-in (H .table) above below u ruled (e ∙ rw same-kind refl) in
+        (rw same-kind (r .0), held-by (ls ++ (settledHere ∷ ms)) (above ++ (settledRow u ∷ below)) (map-append ls (settledHere ∷ ms) ∙ ap (λ (x : Row). above ++ (x ∷ below)) reads-settled) (r .1) (each-swap (λ (x : List ℕ). rowWords n (rowOf x) ≡ x) ls ms ws settledHere each (ap (rowWords n) reads-settled)))
+
+    pub drops-words : Drops ≡ stepAmong (kindAt kinds (u .object)) u above below → (stepAt (kindAt kinds (u .object)) above u below ≡ above ++ below) × Held kinds n (ls ++ ms)
+    drops-words e =
+        let r = drops-in (H .table) above below u ruled (e ∙ rw same-kind refl) in
+        (rw same-kind (r .0), held-by (ls ++ ms) (above ++ below) (map-append ls ms) (r .1) (each-without (λ (x : List ℕ). rowWords n (rowOf x) ≡ x) ls ms ws each))
+
+    pub both-words : DropsBoth ≡ stepAmong (kindAt kinds (u .object)) u above below → (next : List ℕ) (rest : List (List ℕ)) → ms ≡ next ∷ rest → (stepAt (kindAt kinds (u .object)) above u below ≡ above ++ map rowOf rest) × Held kinds n (ls ++ rest)
+    both-words e next rest f =
+        let r = both-in (H .table) above below u ruled (e ∙ rw same-kind refl) (rowOf next) (map rowOf rest) (ap (map rowOf) f) in
+        (rw same-kind (r .0), held-by (ls ++ rest) (above ++ map rowOf rest) (map-append ls rest) (r .1) (each-without (λ (x : List ℕ). rowWords n (rowOf x) ≡ x) ls rest next (subst (λ (l : List (List ℕ)). Each (λ (x : List ℕ). rowWords n (rowOf x) ≡ x) (ls ++ l)) f (each-without (λ (x : List ℕ). rowWords n (rowOf x) ≡ x) ls ms ws each))))
+
+    pub some-words : DropsBoth ≡ stepAmong (kindAt kinds (u .object)) u above below → ms ≡ [] → ⊥
+    some-words e f = some-in (H .table) above below u ruled (e ∙ rw same-kind refl) (ap (map rowOf) f)
+
+-- settling a row where it stands
+pub settled-here : (s t : List ℕ) (at n : ℕ) → at + (7 + n) ≤ length s → rowWords n (rowOf (take (7 + n) (drop at s))) ≡ take (7 + n) (drop at s) →
+    t ≡ take (at + 4) s ++ replicate (at + 7 + n - (at + 4)) 0 ++ drop (at + 7 + n) s → t ≡ take at s ++ (rowWords n (settledRow (rowOf (take (7 + n) (drop at s)) .operation)) ++ drop (at + (7 + n)) s)
+settled-here s t at n h e f =
+    let ws = take (7 + n) (drop at s) in
+    let zeros = at + 7 + n - (at + 4) in
+    let k : zeros ≡ 3 + n = omega arith in
+    let four : take 4 ws ≡ take 4 (drop at s) = take-take 4 (7 + n) (drop at s) (omega arith) in
+    let a : at + 7 + n ≡ at + (7 + n) = omega arith in
+    f ∙ ap (λ (l : List ℕ). (l ++ replicate zeros 0) ++ drop (at + 7 + n) s) (take-add at 4 s)
+    ∙ append-assoc (take at s ++ take 4 (drop at s)) (replicate zeros 0) (drop (at + 7 + n) s)
+    ∙ append-assoc (take at s) (take 4 (drop at s)) (replicate zeros 0 ++ drop (at + 7 + n) s)
+    ∙ ap (λ (l : List ℕ). take at s ++ l) (sym (append-assoc (take 4 (drop at s)) (replicate zeros 0) (drop (at + 7 + n) s))
+    ∙ ap (λ (l : List ℕ). (l ++ replicate zeros 0) ++ drop (at + 7 + n) s) (sym four)
+    ∙ ap (λ (l : List ℕ). l ++ drop (at + 7 + n) s) (sym (settled-words n zeros ws k e))
+    ∙ ap (λ (i : ℕ). rowWords n (settledRow (rowOf ws .operation)) ++ drop i s) a)
+
+-- pieces that words begin with
+pieces-of : (w k : ℕ) (l : List (List ℕ)) (s : List ℕ) → Wide w l → length l ≡ k → take (k * w) s ≡ flat l → pieces w k s ≡ l
+pieces-of w k l s h e f = ap (pieces w k) (sym (take-append-drop (k * w) s) ∙ ap (λ (m : List ℕ). m ++ drop (k * w) s) f) ∙ pieces-at w k l (drop (k * w) s) h e
+
+-- the same front has the same pieces
+pieces-front : (w k : ℕ) (s t : List ℕ) → k * w ≤ length t → take (k * w) s ≡ take (k * w) t → pieces w k s ≡ pieces w k t
+pieces-front w k s t h e = pieces-of w k (pieces w k t) s (wide-pieces w k t h) (length-pieces w k t) (e ∙ sym (flat-pieces w k t))
+
+flat-last : (l : List (List ℕ)) (x : List ℕ) → flat (l ++ (x ∷ [])) ≡ flat l ++ x
+flat-last [] x = append-nil x
+flat-last (y ∷ l) x = ap (λ (m : List ℕ). y ++ m) (flat-last l x) ∙ sym (append-assoc y (flat l) x)
+
+wide-last : (w : ℕ) (l : List (List ℕ)) (x : List ℕ) → Wide w l → length x ≡ w → Wide w (l ++ (x ∷ []))
+wide-last w [] x h e = (e, tt)
+wide-last w (y ∷ l) x h e = (h .0, wide-last w l x (h .1) e)
+
+pub record Passing (kinds low : List ℕ) (limit : ℕ) (s₀ : List ℕ) (n count : ℕ) (s : List ℕ) (from to more left taken : ℕ) : Type 0 where
+  pub place : Place (7 + n) count s from more
+  pub below : to ≤ from
+  pub kept : to ≡ left * (7 + n)
+  pub long : length s ≡ length s₀
+  pub fewer : left + more ≤ count
+  pub held : Held kinds n (pieces (7 + n) left s ++ pieces (7 + n) more (drop from s))
+  pub left-is : Left limit (kindAt kinds) low (map rowOf (pieces (7 + n) count s₀)) (map rowOf (pieces (7 + n) left s)) (map rowOf (pieces (7 + n) more (drop from s))) taken
+  pub beyond : drop (count * (7 + n)) s ≡ drop (count * (7 + n)) s₀
+
+pub passing-start : (kinds low : List ℕ) (limit : ℕ) (s : List ℕ) (n count : ℕ) → count * (7 + n) ≤ length s → Held kinds n (pieces (7 + n) count s) → Passing kinds low limit s n count s 0 0 count 0 0
+passing-start kinds low limit s n count h H = record {
+  place = place-start s (7 + n) count h;
+  below = omega arith;
+  kept = sym (zero-mul (7 + n));
+  long = refl;
+  fewer = omega arith;
+  held = H;
+  left-is = left-start limit (kindAt kinds) low (map rowOf (pieces (7 + n) count s));
+  beyond = refl;
+}
+
+-- a turn
+module _ (kinds low : List ℕ) (limit : ℕ) (s₀ : List ℕ) (n count : ℕ) (s : List ℕ) (from to more left taken : ℕ) (D : Passing kinds low limit s₀ n count s from to more left taken) (h : 0 < more) where
+  abbrev w : ℕ
+  w = 7 + n
+
+  abbrev ls : List (List ℕ)
+  ls = pieces w left s
+
+  abbrev ws : List ℕ
+  ws = take w (drop from s)
+
+  abbrev ms : List (List ℕ)
+  ms = pieces w (more - 1) (drop (from + w) s)
+
+  pub read-ahead : pieces w more (drop from s) ≡ ws ∷ ms
+  read-ahead = let q : from + w - from ≡ w = omega arith in ahead s w count from more (D .place) h ∙ rw q refl
+
+  pub held-ahead : Held kinds n (ls ++ (ws ∷ ms))
+  held-ahead = subst (λ (l : List (List ℕ)). Held kinds n (ls ++ l)) read-ahead (D .held)
+
+  left-ahead : Left limit (kindAt kinds) low (map rowOf (pieces w count s₀)) (map rowOf ls) (rowOf ws ∷ map rowOf ms) taken
+  left-ahead = subst (λ (l : List (List ℕ)). Left limit (kindAt kinds) low (map rowOf (pieces w count s₀)) (map rowOf ls) (map rowOf l) taken) read-ahead (D .left-is)
+
+  pub here-room : from + w ≤ length s
+  here-room = row-room s w count from more (D .place) h
+
+  -- a row that is kept moves down to the others
+  module _ (s′ : List ℕ) (p : s′ ≡ paste s to (drop from s) w) where
+    wide : w ≤ length (drop from s)
+    wide = simp length-drop (omega (arith, here-room))
+
+    fit : to ≤ length s
+    fit = omega (arith, D .below, here-room)
+
+    front : take (to + w) s′ ≡ take to s ++ ws
+    front = ap (take (to + w)) p ∙ take-paste s to (drop from s) w fit wide
+
+    tail : drop (to + w) s′ ≡ drop (to + w) s
+    tail = ap (drop (to + w)) p ∙ drop-paste s to (drop from s) w fit wide
+
+    len : length s′ ≡ length s
+    len = ap length p ∙ length-paste s to (drop from s) w (omega (arith, D .below, here-room)) wide
+
+    later-same : drop (from + w) s′ ≡ drop (from + w) s
+    later-same = drop-more s′ s (to + w) (from + w) (omega (arith, D .below)) tail
+
+    pub pieces-kept : pieces w (left + 1) s′ ≡ ls ++ (ws ∷ [])
+    pieces-kept =
+        let area : left * w ≤ length s = omega (arith, fit, D .kept) in
+        let one : (left + 1) * w ≡ to + w = omega (arith, add-one left, suc-mul left w, D .kept) in
+        pieces-of w (left + 1) (ls ++ (ws ∷ [])) s′ (wide-last w ls ws (wide-pieces w left s area) (length-take-le w (drop from s) wide))
+        (length-append ls (ws ∷ []) ∙ omega (arith, length-pieces w left s))
+        (ap (λ (k : ℕ). take k s′) one ∙ front ∙ ap (λ (l : List ℕ). l ++ ws) (ap (λ (k : ℕ). take k s) (D .kept) ∙ sym (flat-pieces w left s)) ∙ sym (flat-last ls ws))
+
+    -- a row that is not due
+    pub moved-down : due low (rowOf ws) ≡ false → Passing kinds low limit s₀ n count s′ (from + w) (to + w) (more - 1) (left + 1) taken
+    moved-down d =
+        let one : (left + 1) * w ≡ to + w = omega (arith, add-one left, suc-mul left w, D .kept) in
+        let now-above : map rowOf (pieces w (left + 1) s′) ≡ map rowOf ls ++ (rowOf ws ∷ []) = ap (map rowOf) pieces-kept ∙ map-last ls ws in
+        let now-below : map rowOf (pieces w (more - 1) (drop (from + w) s′)) ≡ map rowOf ms = ap (λ (l : List ℕ). map rowOf (pieces w (more - 1) l)) later-same in
+        record {
+          place = record { size = next-size s w count from more (D .place) h; room = rw len (D .place .room) };
+          below = omega (arith, D .below);
+          kept = sym one;
+          long = len ∙ D .long;
+          fewer = omega (arith, D .fewer);
+          held = subst (λ (l : List (List ℕ)). Held kinds n l) (sym (rw (pieces-kept, later-same) (append-assoc ls (ws ∷ []) ms))) held-ahead;
+          left-is = rw (now-above, now-below) (left-keep limit (kindAt kinds) low (map rowOf (pieces w count s₀)) (map rowOf ls) (map rowOf ms) taken (rowOf ws) left-ahead d);
+          beyond = drop-more s′ s (to + w) (count * w) (omega (arith, D .below, next-size s w count from more (D .place) h)) tail ∙ D .beyond;
+        }
+
+    pub passing-keep : (r : Step) → r ≡ stepFor (kindAt kinds) low (map rowOf ls) (rowOf ws) (map rowOf ms) → r ≡ Keeps → Passing kinds low limit s₀ n count s′ (from + w) (to + w) (more - 1) (left + 1) taken
+    passing-keep r e k = moved-down (kept-not-due (kindAt kinds) low (map rowOf ls) (rowOf ws) (map rowOf ms) r e k)
+
+  -- a step is taken
+  module _ (less : taken < limit) (r : Step) (e : r ≡ stepFor (kindAt kinds) low (map rowOf ls) (rowOf ws) (map rowOf ms)) where
+    abbrev asked : Step
+    asked = stepAmong (kindAt kinds (rowOf ws .operation .object)) (rowOf ws .operation) (map rowOf ls) (map rowOf ms)
+
+    taken-step : (step : Step) → isKeeps step ≡ false → r ≡ step → (due low (rowOf ws) ≡ true) × (step ≡ asked)
+    taken-step step n k =
+        let d = step-due (kindAt kinds) low (map rowOf ls) (rowOf ws) (map rowOf ms) r e (ap isKeeps k ∙ n) in
+        (d .0, sym k ∙ d .1)
+
+    next-left : (above′ below′ : List Row) → due low (rowOf ws) ≡ true → stepAt (kindAt kinds (rowOf ws .operation .object)) (map rowOf ls) (rowOf ws .operation) (map rowOf ms) ≡ above′ ++ below′ → any (due low) above′ ≡ false →
+        Left limit (kindAt kinds) low (map rowOf (pieces w count s₀)) above′ below′ (taken + 1)
+    next-left above′ below′ d f p = left-step limit (kindAt kinds) low (map rowOf (pieces w count s₀)) (map rowOf ls) (map rowOf ms) taken (rowOf ws) above′ below′ left-ahead less d f p
+
+    pub passing-drop : r ≡ Drops → Passing kinds low limit s₀ n count s (from + w) to (more - 1) left (taken + 1)
+    passing-drop k =
+        let t = taken-step Drops refl k in
+        let x = drops-words kinds low n ls ms ws held-ahead (t .0) (t .1) in
+        record {
+          place = place-next s w count from more (D .place) h;
+          below = omega (arith, D .below);
+          kept = D .kept;
+          long = D .long;
+          fewer = omega (arith, D .fewer);
+          held = x .1;
+          left-is = next-left (map rowOf ls) (map rowOf ms) (t .0) (x .0) (D .left-is .passed);
+          beyond = D .beyond;
+        }
+
+    -- and the next row goes with it
+    some-behind : r ≡ DropsBoth → (k : ℕ) → k ≡ more - 1 → 0 < k
+    some-behind b zero f =
+        let t = taken-step DropsBoth refl b in
+        absurd (some-words kinds low n ls ms ws held-ahead (t .0) (t .1) (rw (sym f) refl))
+    some-behind b (suc k) f = omega arith
+
+    pub both-more : r ≡ DropsBoth → 1 ≤ more - 1
+    both-more b = some-behind b (more - 1) refl
+
+    pub passing-both : r ≡ DropsBoth → Passing kinds low limit s₀ n count s (from + w + w) to (more - 1 - 1) left (taken + 1)
+    passing-both b =
+        let t = taken-step DropsBoth refl b in
+        let place′ = place-next s w count from more (D .place) h in
+        let q : from + w + w - (from + w) ≡ w = omega arith in
+        let behind : ms ≡ take w (drop (from + w) s) ∷ pieces w (more - 1 - 1) (drop (from + w + w) s) = ahead s w count (from + w) (more - 1) place′ (both-more b) ∙ rw q refl in
+        let x = both-words kinds low n ls ms ws held-ahead (t .0) (t .1) (take w (drop (from + w) s)) (pieces w (more - 1 - 1) (drop (from + w + w) s)) behind in
+        record {
+          place = place-next s w count (from + w) (more - 1) place′ (both-more b);
+          below = omega (arith, D .below);
+          kept = D .kept;
+          long = D .long;
+          fewer = omega (arith, D .fewer);
+          held = x .1;
+          left-is = next-left (map rowOf ls) (map rowOf (pieces w (more - 1 - 1) (drop (from + w + w) s))) (t .0) (x .0) (D .left-is .passed);
+          beyond = D .beyond;
+        }
+
+    -- it becomes settled where it stands
+    module _ (s₁ : List ℕ) (f : s₁ ≡ take from s ++ (rowWords n (settledRow (rowOf ws .operation)) ++ drop (from + w) s)) where
+      abbrev sw : List ℕ
+      sw = rowWords n (settledRow (rowOf ws .operation))
+
+      sw-long : length sw ≡ w
+      sw-long = length-row n (settledRow (rowOf ws .operation)) (omega arith)
+
+      ahead-long : length (take from s) ≡ from
+      ahead-long = length-take-le from s (omega (arith, here-room))
+
+      from-here : drop from s₁ ≡ sw ++ drop (from + w) s
+      from-here = ap (drop from) f ∙ drop-at (take from s) (sw ++ drop (from + w) s) from ahead-long
+
+      row-now : take w (drop from s₁) ≡ sw
+      row-now = ap (take w) from-here ∙ take-at sw (drop (from + w) s) w sw-long
+
+      later-now : drop (from + w) s₁ ≡ drop (from + w) s
+      later-now = let c : w + from ≡ from + w = omega arith in sym (drop-drop w from s₁) ∙ ap (drop w) from-here ∙ drop-at sw (drop (from + w) s) w sw-long
+
+      above-now : pieces w left s₁ ≡ ls
+      above-now = pieces-front w left s₁ s (omega (arith, D .kept, D .below, here-room))
+          (ap (take (left * w)) f ∙ take-append-le (left * w) (take from s) (sw ++ drop (from + w) s) (omega (arith, D .kept, D .below, ahead-long)) ∙ take-take (left * w) from s (omega (arith, D .kept, D .below)))
+
+      long-now : length s₁ ≡ length s
+      long-now = ap length f ∙ length-append (take from s) (sw ++ drop (from + w) s) ∙ omega (arith, ahead-long, length-append sw (drop (from + w) s), sw-long, length-drop (from + w) s, here-room)
+
+      pieces-now : pieces w more (drop from s₁) ≡ sw ∷ ms
+      pieces-now = go more h
+        where
+          go : (m : ℕ) → 0 < m → pieces w m (drop from s₁) ≡ sw ∷ pieces w (m - 1) (drop (from + w) s)
+          go zero k = absurd (omega arith)
+          go (suc m) k = let p : suc m - 1 ≡ m = omega arith in rw (p, row-now, drop-drop w from s₁, later-now) refl
+
+      settled-in-place : r ≡ Settles → Passing kinds low limit s₀ n count s₁ from to more left (taken + 1)
+      settled-in-place k =
+          let t = taken-step Settles refl k in
+          let x = settles-words kinds low n ls ms ws held-ahead (t .0) (t .1) in
+          let below-now : map rowOf (pieces w more (drop from s₁)) ≡ settledRow (rowOf ws .operation) ∷ map rowOf ms = ap (map rowOf) pieces-now ∙ ap (λ (row : Row). row ∷ map rowOf ms) (row-read n (settledRow (rowOf ws .operation)) (record { long = refl })) in
+          record {
+            place = record { size = D .place .size; room = rw long-now (D .place .room) };
+            below = D .below;
+            kept = D .kept;
+            long = long-now ∙ D .long;
+            fewer = D .fewer;
+            held = rw (above-now, pieces-now) (x .1);
+            left-is = rw (above-now, below-now) (next-left (map rowOf ls) (settledRow (rowOf ws .operation) ∷ map rowOf ms) (t .0) (x .0) (D .left-is .passed));
+            beyond = drop-more s₁ s (from + w) (count * w) (omega (arith, next-size s w count from more (D .place) h)) later-now ∙ D .beyond;
+          }
+
+      now-settled : due low (rowOf (take w (drop from s₁))) ≡ false
+      now-settled = rw (row-now, row-read n (settledRow (rowOf ws .operation)) (record { long = refl })) (settled-not-due low (rowOf ws .operation))
+
+-- so that it is kept as a settled row
+pub passing-settle : (kinds low : List ℕ) (limit : ℕ) (s₀ : List ℕ) (n count : ℕ) (s : List ℕ) (from to more left taken : ℕ) → Passing kinds low limit s₀ n count s from to more left taken → 0 < more → taken < limit →
+    (r : Step) → r ≡ stepFor (kindAt kinds) low (map rowOf (pieces (7 + n) left s)) (rowOf (take (7 + n) (drop from s))) (map rowOf (pieces (7 + n) (more - 1) (drop (from + (7 + n)) s))) → r ≡ Settles →
+    (s₁ s′ : List ℕ) → s₁ ≡ take from s ++ (rowWords n (settledRow (rowOf (take (7 + n) (drop from s)) .operation)) ++ drop (from + (7 + n)) s) → s′ ≡ paste s₁ to (drop from s₁) (7 + n) →
+    Passing kinds low limit s₀ n count s′ (from + (7 + n)) (to + (7 + n)) (more - 1) (left + 1) (taken + 1)
+passing-settle kinds low limit s₀ n count s from to more left taken D h less r e k s₁ s′ f p =
+    moved-down kinds low limit s₀ n count s₁ from to more left (taken + 1)
+    (settled-in-place kinds low limit s₀ n count s from to more left taken D h less r e s₁ f k) h s′ p
+    (now-settled kinds low limit s₀ n count s from to more left taken D h less r e s₁ f)
+
+-- the end: what was not passed moves down to the rest, with zeros behind
+module _ (kinds low : List ℕ) (limit : ℕ) (s₀ : List ℕ) (n count : ℕ) (s : List ℕ) (from to more left taken : ℕ) (D : Passing kinds low limit s₀ n count s from to more left taken) (stop : (limit ≤ taken) ⊎ (more ≤ 0)) where
+  abbrev R₀ : List Row
+  R₀ = map rowOf (pieces (7 + n) count s₀)
+
+  abbrev all : List (List ℕ)
+  all = pieces (7 + n) left s ++ pieces (7 + n) more (drop from s)
+
+  none : (m : ℕ) → m ≡ more → (limit ≤ taken) ⊎ (m ≤ 0) → (limit - taken ≡ 0) ⊎ (map rowOf (pieces (7 + n) m (drop from s)) ≡ [])
+  none m f (inl g) = inl (omega arith)
+  none zero f (inr g) = inr refl
+  none (suc m) f (inr g) = absurd (omega arith)
+
+  ended : (settledRows limit (kindAt kinds) low R₀ ≡ map rowOf all) × (stepsTaken limit (kindAt kinds) low R₀ ≡ taken)
+  ended =
+      let x = left-done limit (kindAt kinds) low R₀ (map rowOf (pieces (7 + n) left s)) (map rowOf (pieces (7 + n) more (drop from s))) taken (D .left-is) (none more refl stop) in
+      (x .0 ∙ sym (map-append (pieces (7 + n) left s) (pieces (7 + n) more (drop from s))), x .1)
+
+  pub passing-steps : taken ≡ stepsThen kinds low limit R₀
+  unfolding stepsThen
+  passing-steps = sym (ended .1)
+
+  pub passing-count : left + more ≡ length (rowsThen kinds low limit R₀)
+  unfolding rowsThen
+  passing-count = sym (ap length (ended .0) ∙ length-map all rowOf ∙ length-append (pieces (7 + n) left s) (pieces (7 + n) more (drop from s)) ∙ omega (arith, length-pieces (7 + n) left s, length-pieces (7 + n) more (drop from s)))
+
+  flat-both : (l m : List (List ℕ)) → flat (l ++ m) ≡ flat l ++ flat m
+  flat-both [] m = refl
+  flat-both (x ∷ l) m = ap (λ (k : List ℕ). x ++ k) (flat-both l m) ∙ sym (append-assoc x (flat l) (flat m))
+
+  words-are : flat (map (rowWords n) (rowsThen kinds low limit R₀)) ≡ take to s ++ take (more * (7 + n)) (drop from s)
+  unfolding rowsThen
+  words-are = ap (λ (rows : List Row). flat (map (rowWords n) rows)) (ended .0) ∙ ap flat (D .held .spelt) ∙ flat-both (pieces (7 + n) left s) (pieces (7 + n) more (drop from s))
+      ∙ rw (flat-pieces (7 + n) left s, flat-pieces (7 + n) more (drop from s), ← D .kept) refl
+
+  pub run-room : from + more * (7 + n) ≤ length s
+  run-room = omega (arith, D .place .size, D .place .room)
+
+  pub passing-done : (s′ : List ℕ) → s′ ≡ closedUp s from to (more * (7 + n)) → s′ ≡ padded (count * (7 + n)) (flat (map (rowWords n) (rowsThen kinds low limit R₀))) ++ drop (count * (7 + n)) s₀
+  unfolding closedUp
+  passing-done s′ f =
+      let run = more * (7 + n) in
+      let a : length (take to s) ≡ to = length-take-le to s (omega (arith, D .below, run-room)) in
+      let c : length (take run (drop from s)) ≡ run = length-take-le run (drop from s) (simp length-drop (omega (arith, run-room))) in
+      let size : count * (7 + n) ≡ from + run = sym (D .place .size) in
+      let zeros : count * (7 + n) - length (take to s ++ take run (drop from s)) ≡ from - to = omega (arith, length-append (take to s) (take run (drop from s)), a, c, size, D .below) in
+      f ∙ rw (words-are, zeros, ← D .beyond, size) (simp append-assoc)
+
+-- the step at a row, from its words
+word-at : (s : List ℕ) (w at i : ℕ) → i < w → getD (take w (drop at s)) i 0 ≡ getD s (at + i) 0
+word-at s w at i h = getD-take w (drop at s) i 0 h ∙ getD-drop at s i 0
+
+module _ (kinds low s : List ℕ) (n at more left : ℕ) (H : Held kinds n (pieces (7 + n) left s ++ (take (7 + n) (drop at s) ∷ pieces (7 + n) more (drop (at + (7 + n)) s)))) (d : Bool) (e : d ≡ due low (rowOf (take (at + (7 + n) - at) (drop at s)))) where
+  abbrev row : Row
+  row = rowOf (take (7 + n) (drop at s))
+
+  abbrev over : List Row
+  over = map rowOf (pieces (7 + n) left s)
+
+  abbrev under : List Row
+  under = map rowOf (pieces (7 + n) more (drop (at + (7 + n)) s))
+
+  due-is : d ≡ due low row
+  due-is = e ∙ rw (row-at s (7 + n) at) refl
+
+  pub step-kept : d ≡ false → Keeps ≡ stepFor (kindAt kinds) low over row under
+  unfolding stepFor
+  step-kept f = rw (sym due-is ∙ f) refl
+
+  pub step-decided : d ≡ true → (kind : ℕ) (before behind : Neighbour) (r : Step) → kind ≡ getD kinds (getD s at 0) 0 → before ≡ besideLast (row .operation) over → behind ≡ besideNext (row .operation) under →
+      r ≡ decided kind (getD s (at + 3) 0) before behind → r ≡ stepFor (kindAt kinds) low over row under
+  unfolding stepFor kindAt
+  step-decided t kind before behind r k a b f =
+      let o : getD (take (7 + n) (drop at s)) 0 0 ≡ getD s at 0 = word-at s (7 + n) at 0 (omega arith) ∙ ap (λ (i : ℕ). getD s i 0) (let z : at + 0 ≡ at = omega arith in z) in
+      let c : getD (take (7 + n) (drop at s)) 3 0 ≡ getD s (at + 3) 0 = word-at s (7 + n) at 3 (omega arith) in
+      let g : r ≡ decided (getD kinds (row .operation .object) 0) (row .operation .code) (besideLast (row .operation) over) (besideNext (row .operation) under) = f ∙ rw (k, a, b, o, c) refl in
+      rw (sym due-is ∙ t) (g ∙ sym (decides-words kinds low n (pieces (7 + n) left s) (pieces (7 + n) more (drop (at + (7 + n)) s)) (take (7 + n) (drop at s)) H (sym due-is ∙ t)))
+
+-- a run moved down, and zeros behind it
+pub closed : (s t u : List ℕ) (from to run : ℕ) → to ≤ from → from + run ≤ length s → t ≡ paste s to (drop from s) run → u ≡ take (to + run) t ++ replicate (from + run - (to + run)) 0 ++ drop (from + run) t → u ≡ closedUp s from to run
+unfolding closedUp
+closed s t u from to run h k e f =
+    let wide : run ≤ length (drop from s) = simp length-drop (omega arith) in
+    let front : take (to + run) t ≡ take to s ++ take run (drop from s) = ap (take (to + run)) e ∙ take-paste s to (drop from s) run (omega arith) wide in
+    let tail : drop (to + run) t ≡ drop (to + run) s = ap (drop (to + run)) e ∙ drop-paste s to (drop from s) run (omega arith) wide in
+    let behind : drop (from + run) t ≡ drop (from + run) s = drop-more t s (to + run) (from + run) (omega arith) tail in
+    let zeros : from + run - (to + run) ≡ from - to = omega arith in
+    f ∙ rw (front, behind, zeros) (simp append-assoc)
+
+pub closed-room : (s t : List ℕ) (from to run : ℕ) → to ≤ from → from + run ≤ length s → t ≡ paste s to (drop from s) run → from + run ≤ length t
+closed-room s t from to run h k e = rw (ap length e ∙ length-paste s to (drop from s) run (omega arith) (simp length-drop (omega arith))) k

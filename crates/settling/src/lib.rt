@@ -1,0 +1,285 @@
+// Settling in lent words: rows are passed once, and each that is due is settled or dropped by what stands beside it.
+ghost use mathlib.Core.Path.{_≡_};
+ghost use mathlib.Core.List.{_∷_, _++_, map};
+ghost use Prim.Native.Nat.{_+_, _*_, _≤_, _<_};
+ghost use lib.ListN.{length, take, drop};
+ghost use Rattle.meaning.specs.Order.{entryLimit};
+ghost use Rattle.meaning.specs.Operations.{removesStand};
+ghost use Rattle.meaning.specs.Rows.{settledRow};
+ghost use Rattle.meaning.specs.Settling.{due};
+ghost use Rattle.layout.specs.Words.{flat, padded, pieces};
+ghost use Rattle.layout.specs.Layout.{rowOf, rowWidth, rowWords};
+ghost use Rattle.placing.specs.Placing.{keyWords};
+ghost use Rattle.settling.specs.Stepping.{addDecided, beside, besideLast, besideNext, decided, nobody, removeDecided, stepFor};
+ghost use Rattle.settling.specs.Passing.{closedUp, Held, kindAt, rowsFrom, rowsThen, stepsThen};
+use tags::RowCount;
+
+// What stands beside a row: whether it is of the same value, whether it adds, and whether it is settled; all false where nothing stands.
+pub struct Neighbour {
+    pub same: bool,
+    pub adds: bool,
+    pub settled: bool,
+}
+
+// What becomes of a row: it is kept as it is, it becomes settled, it is dropped, or it is dropped and a settled remove behind it as well.
+pub enum Step {
+    Keeps,
+    Settles,
+    Drops,
+    DropsBoth,
+}
+
+// What a pass leaves: so many rows, after so many steps.
+pub struct Passed {
+    pub left: RowCount,
+    pub taken: RowCount,
+}
+
+const ADDS: u32 = 1;
+
+const DISABLE_WINS_FLAG: u32 = 6;
+
+const REMOVE_WINS_SET: u32 = 9;
+
+// Where the words of a row stand.
+const OBJECT_AT: usize = 0;
+
+const CODE_AT: usize = 3;
+
+const UNSETTLED_AT: usize = 4;
+
+const VECTOR_AT: usize = 7;
+
+// Whether a row is due: unsettled, and stable by Low.
+fn is_due(row: &[u32], low: &[u32]) -> bool
+    requires { ⌜ length (now row) ≡ rowWidth (length (now low)) ⌝ }
+    ensures { λ r. ⌜ r ≡ due (now (low .entry)) (rowOf (now (row .entry))) ⌝ }
+{
+    if row[UNSETTLED_AT] == 0 {
+        return false;
+    }
+    tags::at_most(&row[VECTOR_AT..], low)
+}
+
+// Nothing beside a row.
+fn no_neighbour() -> Neighbour
+    ensures { λ r. ⌜ r ≡ nobody ⌝ }
+{
+    Neighbour {
+        same: false,
+        adds: false,
+        settled: false,
+    }
+}
+
+// A row as the neighbour of another.
+fn compared(row: &[u32], other: &[u32]) -> Neighbour
+    requires { ⌜ (keyWords ≤ length (now row)) × (keyWords ≤ length (now other)) ⌝ }
+    ensures { λ r. ⌜ r ≡ beside (rowOf (now (row .entry)) .operation) (rowOf (now (other .entry))) ⌝ }
+{
+    Neighbour {
+        same: tags::same(&row[OBJECT_AT..CODE_AT], &other[OBJECT_AT..CODE_AT]),
+        adds: other[CODE_AT] == ADDS,
+        settled: other[UNSETTLED_AT] == 0,
+    }
+}
+
+// What stands before the row at a place: the last of the rows kept so far, which end at another place.
+fn before(rows: &[u32], width: usize, at: usize, to: usize, left: usize) -> Neighbour
+    requires { ⌜ (keyWords ≤ width) × (to ≡ left * width) × (to ≤ at) × (at + width ≤ length (now rows)) ⌝ }
+    ensures { λ r. ⌜ r ≡ besideLast (rowOf (take width (drop at (now (rows .entry)))) .operation) (map rowOf (pieces width left (now (rows .entry)))) ⌝ }
+{
+    if to < width {
+        return no_neighbour();
+    }
+    let end = at + width;
+    compared(&rows[at..end], &rows[to - width..to])
+}
+
+// What stands behind the row at a place, where so many rows follow it.
+fn behind(rows: &[u32], width: usize, at: usize, more: usize) -> Neighbour
+    requires { ⌜ (keyWords ≤ width) × (at + width + more * width ≤ length (now rows)) × (at + width ≤ length (now rows)) ⌝ }
+    ensures { λ r. ⌜ r ≡ besideNext (rowOf (take width (drop at (now (rows .entry)))) .operation) (map rowOf (pieces width more (drop (at + width) (now (rows .entry))))) ⌝ }
+{
+    if more == 0 {
+        return no_neighbour();
+    }
+    let next = at + width;
+    let end = next + width;
+    compared(&rows[at..next], &rows[next..end])
+}
+
+// Whether removes stand in objects of this kind.
+fn removes_stand(kind: u32) -> bool
+    ensures { λ r. ⌜ r ≡ removesStand kind ⌝ }
+{
+    if kind == DISABLE_WINS_FLAG {
+        return true;
+    }
+    kind == REMOVE_WINS_SET
+}
+
+// What becomes of a remove where removes stand: it is settled if adds are all that stands beside it.
+fn remove_step(before: Neighbour, behind: Neighbour) -> Step
+    ensures { λ r. ⌜ r ≡ removeDecided before behind ⌝ }
+{
+    if behind.same {
+        return Step::Drops;
+    }
+    if before.same {
+        if before.adds {
+            return Step::Settles;
+        }
+    }
+    Step::Drops
+}
+
+// What becomes of any other row: it is settled if nothing stands beside it, and where removes stand the last add takes a settled remove along.
+fn add_step(stands: bool, before: Neighbour, behind: Neighbour) -> Step
+    ensures { λ r. ⌜ r ≡ addDecided stands before behind ⌝ }
+{
+    if before.same {
+        return Step::Drops;
+    }
+    if behind.same {
+        if stands {
+            if behind.adds {
+                return Step::Drops;
+            }
+            if behind.settled {
+                return Step::DropsBoth;
+            }
+        }
+        return Step::Drops;
+    }
+    Step::Settles
+}
+
+// What becomes of a row of this kind and code.
+fn decide(kind: u32, code: u32, before: Neighbour, behind: Neighbour) -> Step
+    ensures { λ r. ⌜ r ≡ decided kind code before behind ⌝ }
+{
+    if removes_stand(kind) {
+        if code == ADDS {
+            return add_step(true, before, behind);
+        }
+        return remove_step(before, behind);
+    }
+    add_step(false, before, behind)
+}
+
+// What becomes of the row at a place: it is kept unless it is due. The rows kept so far end at another place, and so many follow it.
+fn step_for(
+    rows: &[u32],
+    size: usize,
+    at: usize,
+    more: usize,
+    to: usize,
+    left: usize,
+    kinds: &[u32],
+    low: &[u32],
+) -> Step
+    requires { ⌜ (length (now low) ≡ size) × (size ≤ 16) × (to ≡ left * rowWidth size) × (to ≤ at) × (at + rowWidth size ≤ length (now rows)) × (at + rowWidth size + more * rowWidth size ≤ length (now rows)) ⌝ }
+    requires { ⌜ Held (now kinds) size (pieces (rowWidth size) left (now rows) ++ (take (rowWidth size) (drop at (now rows)) ∷ pieces (rowWidth size) more (drop (at + rowWidth size) (now rows)))) ⌝ }
+    ensures { λ r. ⌜ r ≡ stepFor (kindAt (now (kinds .entry))) (now (low .entry)) (rowsFrom size left (now (rows .entry))) (rowOf (take (rowWidth size) (drop at (now (rows .entry))))) (rowsFrom size more (drop (at + rowWidth size) (now (rows .entry)))) ⌝ }
+{
+    let width = VECTOR_AT + size;
+    let end = at + width;
+    if is_due(&rows[at..end], low) {
+        let kind = rowrules::kind_of(kinds, rows[at]);
+        let above = before(rows, width, at, to, left);
+        let below = behind(rows, width, at, more);
+        return decide(kind, rows[at + CODE_AT], above, below);
+    }
+    Step::Keeps
+}
+
+// Settles a row where it stands: its tag is wiped.
+pub fn settle_row(rows: &mut [u32], at: usize, size: usize)
+    requires { ⌜ (at + rowWidth size ≤ length (now rows)) × (size ≤ 16) × (rowWords size (rowOf (take (rowWidth size) (drop at (now rows)))) ≡ take (rowWidth size) (drop at (now rows))) ⌝ }
+    ensures { λ _. ⌜ now (rows .exit) ≡ take at (now (rows .entry)) ++ (rowWords size (settledRow (rowOf (take (rowWidth size) (drop at (now (rows .entry)))) .operation)) ++ drop (at + rowWidth size) (now (rows .entry))) ⌝ }
+{
+    moves::clear(rows, at + UNSETTLED_AT, at + VECTOR_AT + size);
+}
+
+// Moves a run of words down to a place, with zeros where it left room.
+fn close_up(rows: &mut [u32], from: usize, to: usize, run: usize)
+    requires { ⌜ (to ≤ from) × (from + run ≤ length (now rows)) ⌝ }
+    ensures { λ _. ⌜ now (rows .exit) ≡ closedUp (now (rows .entry)) from to run ⌝ }
+{
+    moves::copy_down(rows, run, from, to);
+    moves::clear(rows, to + run, from + run);
+}
+
+// Ends a pass: the rows that were not passed move down to those that were kept, with zeros behind them.
+fn finish(
+    rows: &mut [u32],
+    width: usize,
+    from: usize,
+    to: usize,
+    more: usize,
+    left: usize,
+    taken: u32,
+) -> Passed
+    requires { ⌜ (to ≤ from) × (from + more * width ≤ length (now rows)) × (left + more < entryLimit) ⌝ }
+    ensures { λ r. ⌜ (r .left .0 ≡ left + more) × (r .taken .0 ≡ taken) × (now (rows .exit) ≡ closedUp (now (rows .entry)) from to (more * width)) ⌝ }
+{
+    close_up(rows, from, to, more * width);
+    Passed {
+        left: RowCount((left + more) as u32),
+        taken: RowCount(taken),
+    }
+}
+
+// Takes settling steps until the limit or until no row is due: one pass with a reading and a writing place.
+pub fn pass_rows(
+    rows: &mut [u32],
+    size: usize,
+    count: RowCount,
+    kinds: &[u32],
+    low: &[u32],
+    limit: RowCount,
+) -> Passed
+    requires { ⌜ (length (now low) ≡ size) × (size ≤ 16) × (count .0 * rowWidth size ≤ length (now rows)) × Held (now kinds) size (pieces (rowWidth size) (count .0) (now rows)) ⌝ }
+    ensures { λ r. ⌜ (r .left .0 ≡ length (rowsThen (now (kinds .entry)) (now (low .entry)) (limit .0) (rowsFrom size (count .0) (now (rows .entry))))) × (r .taken .0 ≡ stepsThen (now (kinds .entry)) (now (low .entry)) (limit .0) (rowsFrom size (count .0) (now (rows .entry)))) × (now (rows .exit) ≡ padded (count .0 * rowWidth size) (flat (map (rowWords size) (rowsThen (now (kinds .entry)) (now (low .entry)) (limit .0) (rowsFrom size (count .0) (now (rows .entry)))))) ++ drop (count .0 * rowWidth size) (now (rows .entry))) ⌝ }
+{
+    let width = VECTOR_AT + size;
+    let mut from = 0;
+    let mut to = 0;
+    let mut more = tags::wide(count.0);
+    let mut left = 0;
+    let mut taken: u32 = 0;
+    while 0 < more {
+        if limit.0 <= taken {
+            return finish(rows, width, from, to, more, left, taken);
+        }
+        more -= 1;
+        let end = from + width;
+        match step_for(rows, size, from, more, to, left, kinds, low) {
+            Step::Keeps => {
+                moves::copy_down(rows, width, from, to);
+                to += width;
+                left += 1;
+                from = end;
+            }
+            Step::Settles => {
+                settle_row(rows, from, size);
+                moves::copy_down(rows, width, from, to);
+                to += width;
+                left += 1;
+                taken += 1;
+                from = end;
+            }
+            Step::Drops => {
+                taken += 1;
+                from = end;
+            }
+            Step::DropsBoth => {
+                taken += 1;
+                more -= 1;
+                from = end + width;
+            }
+        }
+    }
+    finish(rows, width, from, to, more, left, taken)
+}
