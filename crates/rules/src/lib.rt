@@ -7,6 +7,8 @@ ghost use Rattle.meaning.specs.Tests.{between, every};
 ghost use Rattle.layout.specs.Layout.{capacityIn, holdsTable, rowsAt, rowsIn, sizeIn, spaceFor};
 ghost use Rattle.rowrules.specs.RowTests.{rowsKept};
 ghost use Rattle.rules.specs.TableTests.{clockIn, headKept, Headed, kindsIn, kindsKept, lastsKept, mostBeforeRows, mostWords, partsKept, sizesKept, totalsKept, unusedKept};
+use tags::RowCount;
+use tags::Station;
 
 const MARK: u32 = 1919904876;
 
@@ -72,22 +74,23 @@ fn all_in_range(words: &[u32], least: u32, greatest: u32) -> bool
 }
 
 // Whether the head's numbers are in range.
-fn sizes_ok(size: u32, own: u32, capacity: u32, objects: u32, count: u32) -> bool
-    ensures { λ r. ⌜ r ≡ sizesKept size own capacity objects count ⌝ }
+fn sizes_ok(size: u32, own: Station, capacity: RowCount, objects: u32, count: RowCount) -> bool
+    ensures { λ r. ⌜ r ≡ sizesKept size (own .0) (capacity .0) objects (count .0) ⌝ }
 {
+    let most = capacity.0;
     if !in_range(size, 1, GREATEST_SIZE) {
         return false;
     }
-    if size <= own {
+    if size <= own.0 {
         return false;
     }
-    if !in_range(capacity, 1, GREATEST_CAPACITY) {
+    if !in_range(most, 1, GREATEST_CAPACITY) {
         return false;
     }
     if !in_range(objects, 1, MOST_OBJECTS) {
         return false;
     }
-    count <= capacity
+    count.0 <= most
 }
 
 // Where the rows of a group of this size start.
@@ -99,11 +102,11 @@ fn rows_at(size: usize) -> usize
 }
 
 // How many words a table needs.
-fn space_for(size: usize, capacity: usize) -> usize
-    requires { ⌜ (size ≤ 16) × (capacity ≤ 512) ⌝ }
-    ensures { λ r. ⌜ (r ≡ spaceFor size capacity) × (r ≤ mostWords) ⌝ }
+fn space_for(size: usize, capacity: RowCount) -> usize
+    requires { ⌜ (size ≤ 16) × (capacity .0 ≤ 512) ⌝ }
+    ensures { λ r. ⌜ (r ≡ spaceFor size (capacity .0)) × (r ≤ mostWords) ⌝ }
 {
-    rows_at(size) + capacity * (KEY + size)
+    rows_at(size) + tags::wide(capacity.0) * (KEY + size)
 }
 
 // Whether the words are enough for the table that the head describes.
@@ -111,7 +114,7 @@ fn has_room(s: &[u32]) -> bool
     requires { ⌜ (103 ≤ length (now s)) × (sizeIn (now s) ≤ 16) × (capacityIn (now s) ≤ 512) ⌝ }
     ensures { λ r. ⌜ r ≡ leb (spaceFor (sizeIn (now (s .entry))) (capacityIn (now (s .entry)))) (length (now (s .entry))) ⌝ }
 {
-    space_for(tags::wide(s[SIZE_AT]), tags::wide(s[CAPACITY_AT])) <= s.len()
+    space_for(tags::wide(s[SIZE_AT]), RowCount(s[CAPACITY_AT])) <= s.len()
 }
 
 // Whether the head is a table's.
@@ -127,10 +130,10 @@ fn head_ok(s: &[u32]) -> bool
     }
     if sizes_ok(
         s[SIZE_AT],
-        s[OWN_AT],
-        s[CAPACITY_AT],
+        Station(s[OWN_AT]),
+        RowCount(s[CAPACITY_AT]),
         s[OBJECTS_AT],
-        s[COUNT_AT],
+        RowCount(s[COUNT_AT]),
     ) {
         return has_room(s);
     }
@@ -171,11 +174,7 @@ fn lasts_ok(s: &[u32]) -> bool
     ensures { λ r. ⌜ r ≡ lastsKept (now (s .entry)) ⌝ }
 {
     let clock_end = CLOCK_AT + tags::wide(s[SIZE_AT]);
-    clockrules::each_last_ok(
-        &s[clock_end..],
-        &s[CLOCK_AT..clock_end],
-        tags::wide(s[OWN_AT]),
-    )
+    clockrules::each_last_ok(&s[clock_end..], &s[CLOCK_AT..clock_end], Station(s[OWN_AT]))
 }
 
 // Whether the rows keep their rules.
@@ -190,7 +189,7 @@ fn rows_kept(s: &[u32]) -> bool
     rowrules::rows_ok(
         &s[start..],
         KEY + size,
-        tags::wide(s[COUNT_AT]),
+        RowCount(s[COUNT_AT]),
         &s[KINDS_AT..kinds_end],
         &s[CLOCK_AT..clock_end],
     )
@@ -202,8 +201,8 @@ fn unused_ok(s: &[u32]) -> bool
     ensures { λ r. ⌜ r ≡ unusedKept (now (s .entry)) ⌝ }
 {
     let size = tags::wide(s[SIZE_AT]);
-    let start = space_for(size, tags::wide(s[COUNT_AT]));
-    let end = space_for(size, tags::wide(s[CAPACITY_AT]));
+    let start = space_for(size, RowCount(s[COUNT_AT]));
+    let end = space_for(size, RowCount(s[CAPACITY_AT]));
     rowrules::all_zero(&s[start..end])
 }
 
