@@ -6,6 +6,7 @@ ghost use Rattle.meaning.specs.Tests.{everyAt};
 ghost use Rattle.meaning.specs.Table.{sumOfEntries, totalBound};
 ghost use Rattle.layout.specs.Words.{ofComplement, ofTwoWords, pieces, wordLimit};
 ghost use Rattle.clockrules.specs.ClockTests.{lastKept, totalKept, totalKeptAt};
+use layout::TOTAL_WORDS;
 use tags::Station;
 
 const GROW_COUNTER: u32 = 1;
@@ -20,9 +21,6 @@ const WORD_LIMIT: u64 = 4294967296;
 const NEGATIVE_FROM: u64 = 9223372036854775808;
 
 const GREATEST_CODE: u64 = 18446744073709551615;
-
-// How many words a total has.
-pub const TOTAL_WORDS: usize = 2;
 
 // Where the words of a total stand.
 const HIGH_AT: usize = 0;

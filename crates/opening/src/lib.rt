@@ -8,19 +8,12 @@ ghost use lib.Seq.{paste};
 ghost use Rattle.meaning.specs.Table.{inRange, opened};
 ghost use Rattle.layout.specs.Layout.{kindsAt, spaceFor, wordsOf};
 ghost use Rattle.opening.specs.Opening.{headed, headerOf};
+use layout::CLOCK_AT;
+use layout::KEY;
+use layout::KINDS_AT;
+use layout::TABLE_MARK;
 use tags::RowCount;
 use tags::Station;
-
-// The first word of a table, "roll" in four bytes.
-const TABLE_MARK: u32 = 1919904876;
-
-// Where the parts behind the head stand.
-const KINDS_AT: usize = 7;
-
-const CLOCK_AT: usize = 103;
-
-// A row's words before its vector.
-const KEY: usize = 7;
 
 // A byte as a word.
 fn word(x: u8) -> u32

@@ -7,10 +7,8 @@ ghost use Rattle.meaning.specs.Rows.{lowerKey};
 ghost use Rattle.layout.specs.Words.{flat, pieces};
 ghost use Rattle.layout.specs.Layout.{rowWidth};
 ghost use Rattle.placing.specs.Placing.{inserted, keyWords, passed};
+use layout::KEY;
 use tags::RowCount;
-
-// The first seven words of a row decide its place: object, value, code, settled or not, sender, number.
-const KEY: usize = 7;
 
 // Whether one key is lower than another, by the first word in which they differ.
 pub fn lower(key: &[u32], other: &[u32]) -> bool

@@ -8,6 +8,15 @@ ghost use Rattle.layout.specs.Words.{allZero, pieces};
 ghost use Rattle.layout.specs.Layout.{rowOf, rowWidth};
 ghost use Rattle.placing.specs.Placing.{keyWords};
 ghost use Rattle.rowrules.specs.RowTests.{chained, contentKept, follows, numberKept, rowKept, rowsKept, unsettledKept};
+use layout::CODE_AT;
+use layout::HIGH_AT;
+use layout::KEY;
+use layout::LOW_AT;
+use layout::NUMBER_AT;
+use layout::OBJECT_AT;
+use layout::TAG_AT;
+use layout::UNSETTLED_AT;
+use layout::VECTOR_AT;
 use tags::Number;
 use tags::RowCount;
 use tags::Station;
@@ -29,23 +38,6 @@ const DISABLE_WINS_FLAG: u32 = 6;
 const REMOVE_WINS_SET: u32 = 9;
 
 const UNSETTLED: u32 = 1;
-
-// Where the words of a row stand.
-const OBJECT_AT: usize = 0;
-
-const HIGH_AT: usize = 1;
-
-const LOW_AT: usize = 2;
-
-const CODE_AT: usize = 3;
-
-const UNSETTLED_AT: usize = 4;
-
-const TAG_AT: usize = 5;
-
-const NUMBER_AT: usize = 6;
-
-const VECTOR_AT: usize = 7;
 
 // Whether all words are 0; it notes a fault and never leaves early, so that it runs over many words at a time.
 pub fn all_zero(words: &[u32]) -> bool
@@ -210,9 +202,9 @@ fn in_order(rows: &[u32], width: usize, count: RowCount, kinds: &[u32]) -> bool
     let mut at = 0;
     let mut more = count.0;
     while 1 < more {
-        let end = at + VECTOR_AT;
+        let end = at + KEY;
         let next = at + width;
-        let after = next + VECTOR_AT;
+        let after = next + KEY;
         if !may_follow(&rows[at..end], &rows[next..after], kinds) {
             good = false;
         }

@@ -8,6 +8,11 @@ ghost use Rattle.meaning.specs.Arrival.{sameValue, takenBy};
 ghost use Rattle.layout.specs.Words.{flat, padded};
 ghost use Rattle.layout.specs.Layout.{rowOf, rowWidth};
 ghost use Rattle.rows.specs.Arriving.{concernsValue, goes, isKept, operationOf, staying};
+use layout::HIGH_AT;
+use layout::LOW_AT;
+use layout::OBJECT_AT;
+use layout::UNSETTLED_AT;
+use layout::VECTOR_AT;
 use tags::RowCount;
 use tags::Station;
 
@@ -34,17 +39,6 @@ const GROW_SET: u32 = 3;
 const TWO_PHASE_SET: u32 = 4;
 
 const MULTI_VALUE_REGISTER: u32 = 7;
-
-// Where the words of a row stand.
-const OBJECT_AT: usize = 0;
-
-const HIGH_AT: usize = 1;
-
-const LOW_AT: usize = 2;
-
-const UNSETTLED_AT: usize = 4;
-
-const VECTOR_AT: usize = 7;
 
 // Whether a row is of the arrival's object and value.
 fn same_value(row: &[u32], a: Arrival, v: &[u32]) -> bool

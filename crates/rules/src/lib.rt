@@ -7,10 +7,21 @@ ghost use Rattle.meaning.specs.Tests.{between, every};
 ghost use Rattle.layout.specs.Layout.{capacityIn, holdsTable, rowsAt, rowsIn, sizeIn, spaceFor};
 ghost use Rattle.rowrules.specs.RowTests.{rowsKept};
 ghost use Rattle.rules.specs.TableTests.{clockIn, headKept, Headed, kindsIn, kindsKept, lastsKept, mostBeforeRows, mostWords, partsKept, sizesKept, totalsKept, unusedKept};
+use layout::CAPACITY_AT;
+use layout::CLOCK_AT;
+use layout::COUNT_AT;
+use layout::KEY;
+use layout::KINDS_AT;
+use layout::LOADING_AT;
+use layout::MARK_AT;
+use layout::OBJECTS_AT;
+use layout::OWN_AT;
+use layout::SIZE_AT;
+use layout::TABLE_MARK;
+use layout::TOTAL_WORDS;
+use layout::TOTALS_AT;
 use tags::RowCount;
 use tags::Station;
-
-const MARK: u32 = 1919904876;
 
 // What the seventh word holds when no load is under way.
 const IDLE: u32 = 0;
@@ -22,31 +33,6 @@ const GREATEST_CAPACITY: u32 = 512;
 const MOST_OBJECTS: u32 = 32;
 
 const GREATEST_KIND: u32 = 9;
-
-// Where the numbers of the head stand.
-const MARK_AT: usize = 0;
-
-const SIZE_AT: usize = 1;
-
-const OWN_AT: usize = 2;
-
-const CAPACITY_AT: usize = 3;
-
-const OBJECTS_AT: usize = 4;
-
-const COUNT_AT: usize = 5;
-
-const LOADING_AT: usize = 6;
-
-// Where the parts of a table stand.
-const KINDS_AT: usize = 7;
-
-const TOTALS_AT: usize = 39;
-
-const CLOCK_AT: usize = 103;
-
-// The words of a row ahead of its vector.
-const KEY: usize = 7;
 
 // Whether a number is from the least to the greatest.
 fn in_range(number: u32, least: u32, greatest: u32) -> bool
@@ -122,7 +108,7 @@ fn head_ok(s: &[u32]) -> bool
     requires { ⌜ 103 ≤ length (now s) ⌝ }
     ensures { λ r. ⌜ r ≡ headKept (now (s .entry)) ⌝ }
 {
-    if s[MARK_AT] != MARK {
+    if s[MARK_AT] != TABLE_MARK {
         return false;
     }
     if s[LOADING_AT] != IDLE {
@@ -159,7 +145,7 @@ fn totals_ok(s: &[u32]) -> bool
 {
     let objects = tags::wide(s[OBJECTS_AT]);
     let kinds_end = KINDS_AT + objects;
-    let totals_end = TOTALS_AT + objects * clockrules::TOTAL_WORDS;
+    let totals_end = TOTALS_AT + objects * TOTAL_WORDS;
     let clock_end = CLOCK_AT + tags::wide(s[SIZE_AT]);
     let bound = clockrules::total_bound(&s[CLOCK_AT..clock_end]);
     if clockrules::each_total_ok(&s[KINDS_AT..kinds_end], &s[TOTALS_AT..], bound) {

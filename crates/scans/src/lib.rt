@@ -8,16 +8,12 @@ ghost use Rattle.layout.specs.Words.{pieces};
 ghost use Rattle.layout.specs.Layout.{rowOf};
 ghost use Rattle.placing.specs.Placing.{keyWords};
 ghost use Rattle.scans.specs.Showing.{beforeShown, countShown, sameKey, shows, showsValue, valueShown};
+use layout::CODE_AT;
+use layout::HIGH_AT;
+use layout::LOW_AT;
 use tags::RowCount;
 
 const ADDS: u32 = 1;
-
-// Where the words of a row stand.
-const HIGH_AT: usize = 1;
-
-const LOW_AT: usize = 2;
-
-const CODE_AT: usize = 3;
 
 // Values are 32-bit numbers: their high word is 0.
 const NO_HIGH: u32 = 0;

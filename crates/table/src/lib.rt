@@ -9,20 +9,15 @@ ghost use Rattle.meaning.specs.Calls.{withRows};
 ghost use Rattle.layout.specs.Layout.{capacityIn, objectsIn, rewritten, rowOf, rowWords, tableOf, withClock, withLast, withTotals};
 ghost use Rattle.placing.specs.Placing.{keyWords};
 ghost use Rattle.table.specs.Changes.{entryBelowLimit, Opened, rowsLeft, totalsChanged};
+use layout::CLOCK_AT;
+use layout::COUNT_AT;
+use layout::KEY;
+use layout::TOTAL_WORDS;
+use layout::TOTALS_AT;
 use rows::Arrival;
 use tags::RowCount;
 use tags::Station;
 use totals::Total;
-
-// Where the parts of a table stand.
-const COUNT_AT: usize = 5;
-
-const TOTALS_AT: usize = 39;
-
-const CLOCK_AT: usize = 103;
-
-// A row's words before its vector.
-const KEY: usize = 7;
 
 // Drops the rows that go when an operation arrives, and counts the others.
 pub fn drop_going(s: &mut [u32], size: usize, count: RowCount, a: Arrival, v: &[u32]) -> RowCount
@@ -78,7 +73,7 @@ pub fn change_total(
     requires { ⌜ Opened (now s) size (count .0) × (object < objectsIn (now s)) ⌝ }
     ensures { λ _. ⌜ now (s .exit) ≡ rewritten (now (s .entry)) (withTotals (tableOf (now (s .entry))) (totalsChanged object amount increase (tableOf (now (s .entry))))) ⌝ }
 {
-    let at = TOTALS_AT + object * 2;
+    let at = TOTALS_AT + object * TOTAL_WORDS;
     let old = Total(s[at], s[at + 1]);
     let new = totals::changed(old, amount, increase);
     s[at] = new.0;
