@@ -3,11 +3,12 @@ use Prim.Native.Nat.{ℕ, suc, _+_, _-_, _*_, _≤_, _<_}
 use mathlib.Core.Path.{_≡_, refl, sym, ap, _∙_}
 use mathlib.Core.Bool.{Bool, true, false, not, _&&_, _||_, cond, and-true}
 use mathlib.Core.List.{List}
+use native.Mathlib.Nat.{mul-le-mul}
 use native.Mathlib.Numerals.{add-one}
 use native.Mathlib.Omega.{arith}
-use borrow.Author.Tests.{eq-eqb, ne-eqb, lt-ltb, le-ltb, le-leb, leb-true, ltb-true}
+use borrow.Author.Tests.{eq-eqb, ne-eqb, lt-ltb, le-ltb, le-leb, leb-true, ltb-true, ltb-false}
 use mir.Val.{Fits}
-use mir.Syntax.{w64}
+use mir.Syntax.{w32, w64}
 use lib.Dec.{leb, ltb, eqb}
 use lib.IntN.{pos, negsuc}
 use lib.ListN.{length, getD, take, drop, drop-of-length-le}
@@ -15,7 +16,7 @@ use lib.Seq.{drop-cons}
 use Rattle.meaning.specs.Order.{Vector, atMost}
 use Rattle.meaning.specs.Operations.{isCounter}
 use Rattle.meaning.specs.Table.{sumOfEntries, totalBound, isNegative}
-use Rattle.meaning.proofs.Tests.{iff}
+use Rattle.meaning.proofs.Tests.{iff, cases}
 use Rattle.layout.specs.Words.{allZero, ofComplement, ofTwoWords}
 use Rattle.clockrules.specs.ClockTests.{totalKept, totalKeptAt, lastKept}
 use Rattle.rowrules.proofs.Scanning.{Passed, piece-fails, piece-holds}
@@ -105,10 +106,17 @@ module _ (own station : ℕ) (clock vector : Vector) where
   last-own e z h = rw (eq-eqb station own e) h
 
   module _ (other : station ≡ own → ⊥) where
-    pub last-differs : (getD vector station 0 ≡ getD clock station 0 → ⊥) → false ≡ lastKept own clock station vector
-    unfolding lastKept
-    last-differs h = rw (ne-eqb station own other, ne-eqb (getD vector station 0) (getD clock station 0) h) refl
+    module _ (last known : ℕ) (el : last ≡ getD vector station 0) (ek : known ≡ getD clock station 0) where
+      pub last-differs : (last ≡ known → ⊥) → false ≡ lastKept own clock station vector
+      unfolding lastKept
+      last-differs h = rw (ne-eqb station own other, ← el, ← ek, ne-eqb last known h) refl
 
-    pub last-below : getD vector station 0 ≡ getD clock station 0 → (r : Bool) → r ≡ atMost vector clock → r ≡ lastKept own clock station vector
-    unfolding lastKept
-    last-below e r h = rw (ne-eqb station own other, eq-eqb (getD vector station 0) (getD clock station 0) e) h
+      pub last-below : last ≡ known → (r : Bool) → r ≡ atMost vector clock → r ≡ lastKept own clock station vector
+      unfolding lastKept
+      last-below e r h = rw (ne-eqb station own other, ← el, ← ek, eq-eqb last known e) h
+
+-- a station's place is a word: as many vectors of as many entries as there are stations have room
+pub station-fits : (s : List ℕ) (n k : ℕ) → k < n → n * n ≤ length s → length s * 4 < 9223372036854775808 → Fits w32 k
+station-fits s n k h room b = cases (ltb k 4294967296)
+    (λ e. let small = ltb-true k 4294967296 e in omega (arith, small))
+    (λ e. let high : 4294967296 ≤ n = omega (arith, ltb-false k 4294967296 e) in absurd (omega (arith, mul-le-mul high high)))

@@ -6,6 +6,8 @@ ghost use Rattle.meaning.specs.Tests.{everyAt};
 ghost use Rattle.meaning.specs.Table.{sumOfEntries, totalBound};
 ghost use Rattle.layout.specs.Words.{ofComplement, ofTwoWords, pieces, wordLimit};
 ghost use Rattle.clockrules.specs.ClockTests.{lastKept, totalKept, totalKeptAt};
+use layout::TOTAL_WORDS;
+use tags::Station;
 
 const GROW_COUNTER: u32 = 1;
 
@@ -19,9 +21,6 @@ const WORD_LIMIT: u64 = 4294967296;
 const NEGATIVE_FROM: u64 = 9223372036854775808;
 
 const GREATEST_CODE: u64 = 18446744073709551615;
-
-// How many words a total has.
-pub const TOTAL_WORDS: usize = 2;
 
 // Where the words of a total stand.
 const HIGH_AT: usize = 0;
@@ -104,30 +103,31 @@ pub fn each_total_ok(kinds: &[u32], totals: &[u32], bound: u64) -> bool
 }
 
 // Whether one station's vector of the last frame accepted is what the clock allows.
-fn last_ok(vector: &[u32], clock: &[u32], station: usize, own: usize) -> bool
-    requires { ⌜ (length (now vector) ≡ length (now clock)) × (station < length (now clock)) ⌝ }
-    ensures { λ r. ⌜ r ≡ lastKept own (now (clock .entry)) station (now (vector .entry)) ⌝ }
+fn last_ok(vector: &[u32], clock: &[u32], station: Station, own: Station) -> bool
+    requires { ⌜ length (now vector) ≡ length (now clock) ⌝ }
+    ensures { λ r. ⌜ r ≡ lastKept (own .0) (now (clock .entry)) (station .0) (now (vector .entry)) ⌝ }
 {
-    if station == own {
+    if station.0 == own.0 {
         return rowrules::all_zero(vector);
     }
-    if vector[station] != clock[station] {
+    if tags::number_at(vector, station).0 != tags::number_at(clock, station).0 {
         return false;
     }
     tags::at_most(vector, clock)
 }
 
 // Whether each station's is.
-pub fn each_last_ok(lasts: &[u32], clock: &[u32], own: usize) -> bool
+pub fn each_last_ok(lasts: &[u32], clock: &[u32], own: Station) -> bool
     requires { ⌜ length (now clock) * length (now clock) ≤ length (now lasts) ⌝ }
-    ensures { λ r. ⌜ r ≡ everyAt (lastKept own (now (clock .entry))) 0 (pieces (length (now (clock .entry))) (length (now (clock .entry))) (now (lasts .entry))) ⌝ }
+    ensures { λ r. ⌜ r ≡ everyAt (lastKept (own .0) (now (clock .entry))) 0 (pieces (length (now (clock .entry))) (length (now (clock .entry))) (now (lasts .entry))) ⌝ }
 {
     let mut good = true;
     let mut k = 0;
     let mut at = 0;
     while k < clock.len() {
         let end = at + clock.len();
-        if !last_ok(&lasts[at..end], clock, k, own) {
+        let station = k as u32;
+        if !last_ok(&lasts[at..end], clock, Station(station), own) {
             good = false;
         }
         k += 1;

@@ -8,18 +8,12 @@ ghost use lib.Seq.{paste};
 ghost use Rattle.meaning.specs.Table.{inRange, opened};
 ghost use Rattle.layout.specs.Layout.{kindsAt, spaceFor, wordsOf};
 ghost use Rattle.opening.specs.Opening.{headed, headerOf};
+use layout::CLOCK_AT;
+use layout::KEY;
+use layout::KINDS_AT;
+use layout::TABLE_MARK;
+use tags::RowCount;
 use tags::Station;
-
-// The first word of a table, "roll" in four bytes.
-const TABLE_MARK: u32 = 1919904876;
-
-// Where the parts behind the head stand.
-const KINDS_AT: usize = 7;
-
-const CLOCK_AT: usize = 103;
-
-// A row's words before its vector.
-const KEY: usize = 7;
 
 // A byte as a word.
 fn word(x: u8) -> u32
@@ -51,16 +45,16 @@ fn lay(s: &mut [u32], head: &[u32], kinds: &[u8], needed: usize)
 }
 
 // Lays a fresh table: D, every L, the totals and the rows all zero. What lies beyond it stays.
-pub fn lay_table(s: &mut [u32], size: u32, own: Station, capacity: u32, kinds: &[u8])
-    requires { ⌜ (inRange (headerOf size (own .0) capacity (now kinds)) ≡ true) × (spaceFor size capacity ≤ length (now s)) ⌝ }
-    ensures { λ _. ⌜ now (s .exit) ≡ wordsOf (opened (headerOf size (own .0) capacity (now (kinds .entry)))) ++ drop (spaceFor size capacity) (now (s .entry)) ⌝ }
+pub fn lay_table(s: &mut [u32], size: u32, own: Station, capacity: RowCount, kinds: &[u8])
+    requires { ⌜ (inRange (headerOf size (own .0) (capacity .0) (now kinds)) ≡ true) × (spaceFor size (capacity .0) ≤ length (now s)) ⌝ }
+    ensures { λ _. ⌜ now (s .exit) ≡ wordsOf (opened (headerOf size (own .0) (capacity .0) (now (kinds .entry)))) ++ drop (spaceFor size (capacity .0)) (now (s .entry)) ⌝ }
 {
     let stations = tags::wide(size);
     let needed = CLOCK_AT
         + stations
         + stations * stations
-        + tags::wide(capacity) * (KEY + stations);
+        + tags::wide(capacity.0) * (KEY + stations);
     let objects = kinds.len() as u32;
-    let head = [TABLE_MARK, size, own.0, capacity, objects, 0, 0];
+    let head = [TABLE_MARK, size, own.0, capacity.0, objects, 0, 0];
     lay(s, &head, kinds, needed);
 }

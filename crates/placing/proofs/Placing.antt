@@ -103,10 +103,20 @@ passed-short : (key : List ℕ) (rs : List (List ℕ)) → length (flat (passed 
 passed-short key [] = omega arith
 passed-short key (x ∷ xs) = elim (lowerKey key (take 7 x)) as (λ b. length (flat (cond b [] (x ∷ passed key xs))) ≤ length (x ++ flat xs)) [ true ↦ omega arith | false ↦ simp length-append (omega (arith, passed-short key xs)) ]
 
+-- where the rows end, by their number as a place
+pub rows-fit : (s : List ℕ) (w count many : ℕ) → many ≡ count → count * w + w ≤ length s → length s * 4 < 9223372036854775808 → Fits w64 (many * w)
+rows-fit s w count many e room b = rw e (omega arith)
+
+pub row-room : (s : List ℕ) (w count many : ℕ) → many ≡ count → count * w + w ≤ length s → many * w + w ≤ length s
+row-room s w count many e room = rw e room
+
 -- the move and the two writes together are the insertion
 module _ (s key v : List ℕ) (w count at : ℕ) (room : count * w + w ≤ length s) (wide : w ≡ 7 + length v) (k : length key ≡ 7) (found : at ≡ length (flat (passed key (pieces w count s)))) where
-  pub place-low : at ≤ count * w
+  place-low : at ≤ count * w
   place-low = omega (arith, found, passed-short key (pieces w count s), ap length (flat-pieces w count s) ∙ length-take-le (count * w) s (omega arith))
+
+  pub place-below : (many : ℕ) → many ≡ count → at ≤ many * w
+  place-below many e = rw e place-low
 
   pub key-room : (t : List ℕ) → length t ≡ length s → at + length key ≤ length t
   key-room t e = omega (arith, place-low)
@@ -117,8 +127,9 @@ module _ (s key v : List ℕ) (w count at : ℕ) (room : count * w + w ≤ lengt
   pub vector-fits : length s * 4 < 9223372036854775808 → Fits w64 (at + 7)
   vector-fits b = omega (arith, place-low)
 
-  pub insertion : (t u x : List ℕ) → t ≡ take (at + w) s ++ slice at (count * w) s ++ drop (count * w + w) s → u ≡ paste t at key (length key) → x ≡ paste u (at + 7) v (length v) → x ≡ flat (inserted key v (pieces w count s)) ++ drop (count * w + w) s
-  insertion t u x e f g =
+  pub insertion : (many : ℕ) (t u x : List ℕ) → many ≡ count → t ≡ take (at + w) s ++ slice at (many * w) s ++ drop (many * w + w) s → u ≡ paste t at key (length key) → x ≡ paste u (at + 7) v (length v) → x ≡ flat (inserted key v (pieces w count s)) ++ drop (count * w + w) s
+  insertion many t u x m e₀ f g =
+      let e : t ≡ take (at + w) s ++ slice at (count * w) s ++ drop (count * w + w) s = rw m at e₀ in
       let front : length (take (at + w) s) ≡ at + w = length-take-le (at + w) s (omega (arith, place-low)) in
       let tail : drop (at + w) t ≡ slice at (count * w) s ++ drop (count * w + w) s = rw (e, append-assoc) (drop-at (take (at + w) s) _ (at + w) front) in
       let head : take at t ≡ take at s = rw (e, append-assoc) (take-append-le at (take (at + w) s) (slice at (count * w) s ++ drop (count * w + w) s) (omega arith) ∙ take-take at (at + w) s (omega arith)) in

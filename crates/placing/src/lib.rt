@@ -7,9 +7,8 @@ ghost use Rattle.meaning.specs.Rows.{lowerKey};
 ghost use Rattle.layout.specs.Words.{flat, pieces};
 ghost use Rattle.layout.specs.Layout.{rowWidth};
 ghost use Rattle.placing.specs.Placing.{inserted, keyWords, passed};
-
-// The first seven words of a row decide its place: object, value, code, settled or not, sender, number.
-const KEY: usize = 7;
+use layout::KEY;
+use tags::RowCount;
 
 // Whether one key is lower than another, by the first word in which they differ.
 pub fn lower(key: &[u32], other: &[u32]) -> bool
@@ -30,12 +29,12 @@ pub fn lower(key: &[u32], other: &[u32]) -> bool
 }
 
 // The place of the first row that the key is lower than.
-fn find_place(rows: &[u32], width: usize, count: usize, key: &[u32]) -> usize
-    requires { ⌜ (count * width ≤ length (now rows)) × (keyWords ≤ width) × (length (now key) ≡ keyWords) ⌝ }
-    ensures { λ r. ⌜ r ≡ length (flat (passed (now (key .entry)) (pieces width count (now (rows .entry))))) ⌝ }
+fn find_place(rows: &[u32], width: usize, count: RowCount, key: &[u32]) -> usize
+    requires { ⌜ (count .0 * width ≤ length (now rows)) × (keyWords ≤ width) × (length (now key) ≡ keyWords) ⌝ }
+    ensures { λ r. ⌜ r ≡ length (flat (passed (now (key .entry)) (pieces width (count .0) (now (rows .entry))))) ⌝ }
 {
     let mut at = 0;
-    let mut more = count;
+    let mut more = count.0;
     while 0 < more {
         let end = at + KEY;
         if lower(key, &rows[at..end]) {
@@ -48,11 +47,11 @@ fn find_place(rows: &[u32], width: usize, count: usize, key: &[u32]) -> usize
 }
 
 // Puts a row, its key and its vector, at its ordered place; the rows behind it move up.
-pub fn insert_row(rows: &mut [u32], width: usize, count: usize, key: &[u32], v: &[u32])
-    requires { ⌜ (count * width + width ≤ length (now rows)) × (width ≡ rowWidth (length (now v))) × (length (now key) ≡ keyWords) ⌝ }
-    ensures { λ _. ⌜ now (rows .exit) ≡ flat (inserted (now (key .entry)) (now (v .entry)) (pieces width count (now (rows .entry)))) ++ drop (count * width + width) (now (rows .entry)) ⌝ }
+pub fn insert_row(rows: &mut [u32], width: usize, count: RowCount, key: &[u32], v: &[u32])
+    requires { ⌜ (count .0 * width + width ≤ length (now rows)) × (width ≡ rowWidth (length (now v))) × (length (now key) ≡ keyWords) ⌝ }
+    ensures { λ _. ⌜ now (rows .exit) ≡ flat (inserted (now (key .entry)) (now (v .entry)) (pieces width (count .0) (now (rows .entry)))) ++ drop (count .0 * width + width) (now (rows .entry)) ⌝ }
 {
-    let end = count * width;
+    let end = tags::wide(count.0) * width;
     let at = find_place(rows, width, count, key);
     moves::move_up(rows, at, end, width);
     moves::put(rows, at, key);

@@ -8,6 +8,18 @@ ghost use Rattle.layout.specs.Words.{allZero, pieces};
 ghost use Rattle.layout.specs.Layout.{rowOf, rowWidth};
 ghost use Rattle.placing.specs.Placing.{keyWords};
 ghost use Rattle.rowrules.specs.RowTests.{chained, contentKept, follows, numberKept, rowKept, rowsKept, unsettledKept};
+use layout::CODE_AT;
+use layout::HIGH_AT;
+use layout::KEY;
+use layout::LOW_AT;
+use layout::NUMBER_AT;
+use layout::OBJECT_AT;
+use layout::TAG_AT;
+use layout::UNSETTLED_AT;
+use layout::VECTOR_AT;
+use tags::Number;
+use tags::RowCount;
+use tags::Station;
 
 const ADDS: u32 = 1;
 
@@ -26,23 +38,6 @@ const DISABLE_WINS_FLAG: u32 = 6;
 const REMOVE_WINS_SET: u32 = 9;
 
 const UNSETTLED: u32 = 1;
-
-// Where the words of a row stand.
-const OBJECT_AT: usize = 0;
-
-const HIGH_AT: usize = 1;
-
-const LOW_AT: usize = 2;
-
-const CODE_AT: usize = 3;
-
-const UNSETTLED_AT: usize = 4;
-
-const TAG_AT: usize = 5;
-
-const NUMBER_AT: usize = 6;
-
-const VECTOR_AT: usize = 7;
 
 // Whether all words are 0; it notes a fault and never leaves early, so that it runs over many words at a time.
 pub fn all_zero(words: &[u32]) -> bool
@@ -117,17 +112,17 @@ fn content_ok(kind: u32, row: &[u32]) -> bool
 }
 
 // Whether the number is the vector's entry at the sender.
-fn number_ok(number: u32, sender: u32, v: &[u32]) -> bool
-    ensures { λ r. ⌜ r ≡ numberKept number sender (now (v .entry)) ⌝ }
+fn number_ok(number: Number, sender: Station, v: &[u32]) -> bool
+    ensures { λ r. ⌜ r ≡ numberKept (number .0) (sender .0) (now (v .entry)) ⌝ }
 {
-    let at = tags::wide(sender);
+    let at = tags::wide(sender.0);
     if v.len() <= at {
         return false;
     }
-    if number < 1 {
+    if number.0 < 1 {
         return false;
     }
-    number == v[at]
+    number.0 == v[at]
 }
 
 // Whether an unsettled row has a tag that the clock covers.
@@ -139,7 +134,11 @@ fn unsettled_ok(row: &[u32], clock: &[u32]) -> bool
         return false;
     }
     if tags::at_most(&row[VECTOR_AT..], clock) {
-        return number_ok(row[NUMBER_AT], row[TAG_AT], &row[VECTOR_AT..]);
+        return number_ok(
+            Number(row[NUMBER_AT]),
+            Station(row[TAG_AT]),
+            &row[VECTOR_AT..],
+        );
     }
     false
 }
@@ -163,14 +162,14 @@ fn row_ok(row: &[u32], kinds: &[u32], clock: &[u32]) -> bool
 }
 
 // Whether every row keeps the rules that ask nothing of other rows, with a fault noted as in all_zero.
-fn each_ok(rows: &[u32], width: usize, count: usize, kinds: &[u32], clock: &[u32]) -> bool
-    requires { ⌜ (count * width ≤ length (now rows)) × (width ≡ rowWidth (length (now clock))) ⌝ }
-    ensures { λ r. ⌜ r ≡ every (rowKept (now (kinds .entry)) (now (clock .entry))) (pieces width count (now (rows .entry))) ⌝ }
+fn each_ok(rows: &[u32], width: usize, count: RowCount, kinds: &[u32], clock: &[u32]) -> bool
+    requires { ⌜ (count .0 * width ≤ length (now rows)) × (width ≡ rowWidth (length (now clock))) ⌝ }
+    ensures { λ r. ⌜ r ≡ every (rowKept (now (kinds .entry)) (now (clock .entry))) (pieces width (count .0) (now (rows .entry))) ⌝ }
 {
     let mut good = true;
     let mut k = 0;
     let mut at = 0;
-    while k < count {
+    while k < count.0 {
         let end = at + width;
         if !row_ok(&rows[at..end], kinds, clock) {
             good = false;
@@ -195,17 +194,17 @@ fn may_follow(before: &[u32], row: &[u32], kinds: &[u32]) -> bool
 }
 
 // Whether each row may come next after the one before it.
-fn in_order(rows: &[u32], width: usize, count: usize, kinds: &[u32]) -> bool
-    requires { ⌜ (count * width ≤ length (now rows)) × (keyWords ≤ width) ⌝ }
-    ensures { λ r. ⌜ r ≡ chained (follows (now (kinds .entry))) (pieces width count (now (rows .entry))) ⌝ }
+fn in_order(rows: &[u32], width: usize, count: RowCount, kinds: &[u32]) -> bool
+    requires { ⌜ (count .0 * width ≤ length (now rows)) × (keyWords ≤ width) ⌝ }
+    ensures { λ r. ⌜ r ≡ chained (follows (now (kinds .entry))) (pieces width (count .0) (now (rows .entry))) ⌝ }
 {
     let mut good = true;
     let mut at = 0;
-    let mut more = count;
+    let mut more = count.0;
     while 1 < more {
-        let end = at + VECTOR_AT;
+        let end = at + KEY;
         let next = at + width;
-        let after = next + VECTOR_AT;
+        let after = next + KEY;
         if !may_follow(&rows[at..end], &rows[next..after], kinds) {
             good = false;
         }
@@ -216,9 +215,9 @@ fn in_order(rows: &[u32], width: usize, count: usize, kinds: &[u32]) -> bool
 }
 
 // Whether the rows keep all the rules of rows.
-pub fn rows_ok(rows: &[u32], width: usize, count: usize, kinds: &[u32], clock: &[u32]) -> bool
-    requires { ⌜ (count * width ≤ length (now rows)) × (width ≡ rowWidth (length (now clock))) ⌝ }
-    ensures { λ r. ⌜ r ≡ rowsKept (now (kinds .entry)) (now (clock .entry)) (pieces width count (now (rows .entry))) ⌝ }
+pub fn rows_ok(rows: &[u32], width: usize, count: RowCount, kinds: &[u32], clock: &[u32]) -> bool
+    requires { ⌜ (count .0 * width ≤ length (now rows)) × (width ≡ rowWidth (length (now clock))) ⌝ }
+    ensures { λ r. ⌜ r ≡ rowsKept (now (kinds .entry)) (now (clock .entry)) (pieces width (count .0) (now (rows .entry))) ⌝ }
 {
     if each_ok(rows, width, count, kinds, clock) {
         return in_order(rows, width, count, kinds);

@@ -19,7 +19,7 @@ operationOf a vector = record {
   object = a .object;
   code = a .code;
   value = ofTwoWords (a .high) (a .low);
-  sender = a .sender;
+  sender = a .sender .0;
   vector = vector;
 }
 

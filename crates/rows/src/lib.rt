@@ -8,6 +8,13 @@ ghost use Rattle.meaning.specs.Arrival.{sameValue, takenBy};
 ghost use Rattle.layout.specs.Words.{flat, padded};
 ghost use Rattle.layout.specs.Layout.{rowOf, rowWidth};
 ghost use Rattle.rows.specs.Arriving.{concernsValue, goes, isKept, operationOf, staying};
+use layout::HIGH_AT;
+use layout::LOW_AT;
+use layout::OBJECT_AT;
+use layout::UNSETTLED_AT;
+use layout::VECTOR_AT;
+use tags::RowCount;
+use tags::Station;
 
 // What arrives, with the kind of its object; its vector is lent beside it.
 pub struct Arrival {
@@ -16,7 +23,7 @@ pub struct Arrival {
     pub code: u32,
     pub high: u32,
     pub low: u32,
-    pub sender: u32,
+    pub sender: Station,
 }
 
 const ADDS: u32 = 1;
@@ -32,17 +39,6 @@ const GROW_SET: u32 = 3;
 const TWO_PHASE_SET: u32 = 4;
 
 const MULTI_VALUE_REGISTER: u32 = 7;
-
-// Where the words of a row stand.
-const OBJECT_AT: usize = 0;
-
-const HIGH_AT: usize = 1;
-
-const LOW_AT: usize = 2;
-
-const UNSETTLED_AT: usize = 4;
-
-const VECTOR_AT: usize = 7;
 
 // Whether a row is of the arrival's object and value.
 fn same_value(row: &[u32], a: Arrival, v: &[u32]) -> bool
@@ -130,12 +126,12 @@ pub fn row_goes(row: &[u32], a: Arrival, v: &[u32]) -> bool
 }
 
 // How many rows are left when those that go are gone.
-pub fn count_left(rows: &[u32], width: usize, count: usize, a: Arrival, v: &[u32]) -> usize
-    requires { ⌜ (count * width ≤ length (now rows)) × (width ≡ rowWidth (length (now v))) ⌝ }
-    ensures { λ r. ⌜ r ≡ length (staying a (now (v .entry)) width count (now (rows .entry))) ⌝ }
+pub fn count_left(rows: &[u32], width: usize, count: RowCount, a: Arrival, v: &[u32]) -> RowCount
+    requires { ⌜ (count .0 * width ≤ length (now rows)) × (width ≡ rowWidth (length (now v))) ⌝ }
+    ensures { λ r. ⌜ r .0 ≡ length (staying a (now (v .entry)) width (count .0) (now (rows .entry))) ⌝ }
 {
     let mut from = 0;
-    let mut more = count;
+    let mut more = count.0;
     let mut left = 0;
     while 0 < more {
         more -= 1;
@@ -147,17 +143,17 @@ pub fn count_left(rows: &[u32], width: usize, count: usize, a: Arrival, v: &[u32
             from = end;
         }
     }
-    left
+    RowCount(left)
 }
 
 // Drops the rows that go, where they stand: the others move to the front, with zeros after them.
-pub fn drop_rows(rows: &mut [u32], width: usize, count: usize, a: Arrival, v: &[u32]) -> usize
-    requires { ⌜ (count * width ≤ length (now rows)) × (width ≡ rowWidth (length (now v))) ⌝ }
-    ensures { λ r. ⌜ (r ≡ length (staying a (now (v .entry)) width count (now (rows .entry)))) × (now (rows .exit) ≡ padded (count * width) (flat (staying a (now (v .entry)) width count (now (rows .entry)))) ++ drop (count * width) (now (rows .entry))) ⌝ }
+pub fn drop_rows(rows: &mut [u32], width: usize, count: RowCount, a: Arrival, v: &[u32]) -> RowCount
+    requires { ⌜ (count .0 * width ≤ length (now rows)) × (width ≡ rowWidth (length (now v))) ⌝ }
+    ensures { λ r. ⌜ (r .0 ≡ length (staying a (now (v .entry)) width (count .0) (now (rows .entry)))) × (now (rows .exit) ≡ padded (count .0 * width) (flat (staying a (now (v .entry)) width (count .0) (now (rows .entry)))) ++ drop (count .0 * width) (now (rows .entry))) ⌝ }
 {
     let mut from = 0;
     let mut to = 0;
-    let mut more = count;
+    let mut more = count.0;
     let mut left = 0;
     while 0 < more {
         more -= 1;
@@ -172,5 +168,5 @@ pub fn drop_rows(rows: &mut [u32], width: usize, count: usize, a: Arrival, v: &[
         }
     }
     moves::clear(rows, to, from);
-    left
+    RowCount(left)
 }

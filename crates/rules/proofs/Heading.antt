@@ -1,11 +1,11 @@
 -- The head of a table, by its words.
 use Prim.Native.Nat.{ℕ, _+_, _-_, _*_, _≤_, _<_}
 use mathlib.Core.Path.{_≡_, refl, sym, _∙_}
-use mathlib.Core.Bool.{Bool, true, false, _&&_}
+use mathlib.Core.Bool.{Bool, true, false, not, _&&_}
 use mathlib.Core.List.{List}
 use native.Mathlib.Nat.{mul-le-mul}
 use native.Mathlib.Omega.{arith}
-use borrow.Author.Tests.{eqb-true, eq-eqb, ne-eqb, ltb-true, lt-ltb, le-ltb, leb-true, le-leb, lt-leb}
+use borrow.Author.Tests.{eqb-true, eq-eqb, ne-eqb, ltb-true, lt-ltb, le-ltb, leb-true, le-leb, lt-leb, not-false}
 use mir.Val.{Fits}
 use mir.Syntax.{w64}
 use lib.Dec.{leb, ltb, eqb}
@@ -41,14 +41,20 @@ rows-place n h = omega (arith, square n h)
 area : (n c : ℕ) → n ≤ 16 → c ≤ 512 → c * (7 + n) ≤ 11776
 area n c h k = let w : 7 + n ≤ 23 = omega arith in mul-le-mul k w
 
-pub area-fits : (n c : ℕ) → n ≤ 16 → c ≤ 512 → Fits w64 (c * (7 + n))
-area-fits n c h k = omega (arith, area n c h k)
+-- the number of rows as a place
+module _ (n capacity c : ℕ) (h : n ≤ 16) (k : capacity ≤ 512) (e : c ≡ capacity) where
+  pub area-fits : Fits w64 (c * (7 + n))
+  area-fits = rw e (omega (arith, area n capacity h k))
 
-pub space-fits : (n c r : ℕ) → n ≤ 16 → c ≤ 512 → r ≤ 375 → Fits w64 (r + c * (7 + n))
-space-fits n c r h k l = omega (arith, area n c h k)
+  module _ (r : ℕ) (l : r ≤ 375) where
+    pub space-fits : Fits w64 (r + c * (7 + n))
+    space-fits = rw e (omega (arith, area n capacity h k))
 
-pub space-most : (n c r : ℕ) → n ≤ 16 → c ≤ 512 → r ≤ 375 → r + c * (7 + n) ≤ 12151
-space-most n c r h k l = omega (arith, area n c h k)
+    pub space-most : r + c * (7 + n) ≤ 12151
+    space-most = rw e (omega (arith, area n capacity h k))
+
+    pub space-is : r ≡ 103 + n + n * n → r + c * (7 + n) ≡ spaceFor n capacity
+    space-is q = rw (e, q) refl
 
 -- the numbers of the head
 module _ (size own capacity objects count : ℕ) (a : Bool) (ea : a ≡ between 1 16 size) where
@@ -71,9 +77,13 @@ module _ (size own capacity objects count : ℕ) (a : Bool) (ea : a ≡ between 
         unfolding sizesKept
         sizes-objects h = rw (sym ea ∙ ha, lt-ltb own size o, sym eb ∙ hb, sym ec ∙ h) refl
 
-        pub sizes-count : c ≡ true → leb count capacity ≡ sizesKept size own capacity objects count
-        unfolding sizesKept
-        sizes-count h = rw (sym ea ∙ ha, lt-ltb own size o, sym eb ∙ hb, sym ec ∙ h) refl
+-- a test that did not leave
+pub passed-test : (r x : Bool) → r ≡ x → not r ≡ false → x ≡ true
+passed-test r x e h = sym e ∙ not-false r h
+
+pub sizes-count : (size own capacity objects count : ℕ) → between 1 16 size ≡ true → own < size → between 1 512 capacity ≡ true → between 1 32 objects ≡ true → leb count capacity ≡ sizesKept size own capacity objects count
+unfolding sizesKept
+sizes-count size own capacity objects count a o b c = rw (a, lt-ltb own size o, b, c) refl
 
 pub record Sizes (size own capacity objects count : ℕ) : Type 0 where
   pub some : 1 ≤ size
@@ -143,9 +153,9 @@ module _ (s : List ℕ) where
         unfolding headKept
         head-room b q = rw (eq-eqb (getD s 0 0) 1919904876 m, eq-eqb (getD s 6 0) 0 i, sym e ∙ h) q
 
--- the room, at numbers that equal the head's
-pub room-there : (s : List ℕ) (n c p : ℕ) → n ≡ getD s 1 0 → c ≡ getD s 3 0 → p ≡ spaceFor n c → leb p (length s) ≡ leb (spaceFor (getD s 1 0) (getD s 3 0)) (length s)
-room-there s n c p en ec q = rw (q, en, ec) refl
+-- the room, at a size that equals the head's
+pub room-there : (s : List ℕ) (n p : ℕ) → n ≡ getD s 1 0 → p ≡ spaceFor n (getD s 3 0) → leb p (length s) ≡ leb (spaceFor (getD s 1 0) (getD s 3 0)) (length s)
+room-there s n p en q = rw (q, en) refl
 
 pub head-short : (s : List ℕ) → length s < 103 → false ≡ headKept s
 unfolding headKept

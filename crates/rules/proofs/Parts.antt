@@ -69,37 +69,37 @@ module _ (s : List ℕ) (H : Headed s) where
     pub lasts-room : length (take (103 + n - 103) (drop 103 s)) * length (take (103 + n - 103) (drop 103 s)) ≤ length (take (length s - (103 + n)) (drop (103 + n) s))
     lasts-room = rw (clock-is n en, clock-long, rest-is s (103 + n), en) (simp length-drop (omega (arith, H .room)))
 
-    pub lasts-told : (own : ℕ) → own ≡ getD s 2 0 → (r : Bool) → r ≡ everyAt (lastKept own (take (103 + n - 103) (drop 103 s))) 0 (pieces (length (take (103 + n - 103) (drop 103 s))) (length (take (103 + n - 103) (drop 103 s))) (take (length s - (103 + n)) (drop (103 + n) s))) → r ≡ lastsKept s
+    pub lasts-told : (r : Bool) → r ≡ everyAt (lastKept (getD s 2 0) (take (103 + n - 103) (drop 103 s))) 0 (pieces (length (take (103 + n - 103) (drop 103 s))) (length (take (103 + n - 103) (drop 103 s))) (take (length s - (103 + n)) (drop (103 + n) s))) → r ≡ lastsKept s
     unfolding lastsKept
-    lasts-told own eo r er = er ∙ rw (clock-is n en, clock-long, rest-is s (103 + n), en, eo) refl
+    lasts-told r er = er ∙ rw (clock-is n en, clock-long, rest-is s (103 + n), en) refl
 
     -- the rows
     module _ (start : ℕ) (es : start ≡ 103 + n + n * n) where
       pub rows-start : start ≤ length s
       rows-start = rw (es, en) (omega (arith, H .room))
 
-      pub rows-room : (c : ℕ) → c ≡ getD s 5 0 → c * (7 + n) ≤ length (take (length s - start) (drop start s))
-      rows-room c ec = rw (rest-is s start, es, en, ec) (simp length-drop (omega (arith, H .room, row-area)))
+      pub rows-room : getD s 5 0 * (7 + n) ≤ length (take (length s - start) (drop start s))
+      rows-room = rw (rest-is s start, es, en) (simp length-drop (omega (arith, H .room, row-area)))
 
-      pub rows-told : (c o : ℕ) → c ≡ getD s 5 0 → o ≡ getD s 4 0 → (r : Bool) → r ≡ rowsKept (take (7 + o - 7) (drop 7 s)) (take (103 + n - 103) (drop 103 s)) (pieces (7 + n) c (take (length s - start) (drop start s))) → r ≡ rowsKept (kindsIn s) (clockIn s) (rowsIn s)
-      rows-told c o ec eo r er = er ∙ rw (kinds-are o eo, clock-is n en, rest-is s start, es, en, ec) refl
+      pub rows-told : (o : ℕ) → o ≡ getD s 4 0 → (r : Bool) → r ≡ rowsKept (take (7 + o - 7) (drop 7 s)) (take (103 + n - 103) (drop 103 s)) (pieces (7 + n) (getD s 5 0) (take (length s - start) (drop start s))) → r ≡ rowsKept (kindsIn s) (clockIn s) (rowsIn s)
+      rows-told o eo r er = er ∙ rw (kinds-are o eo, clock-is n en, rest-is s start, es, en) refl
 
     pub row-wide : 7 + n ≡ 7 + length (take (103 + n - 103) (drop 103 s))
     row-wide = rw (clock-is n en, clock-long, en) refl
 
     -- the words behind the rows
-    pub unused-end : (k to : ℕ) → k ≡ getD s 3 0 → to ≡ spaceFor n k → to ≤ length s
-    unused-end k to ek et = rw (et, en, ek) (H .room)
+    pub unused-end : (to : ℕ) → to ≡ spaceFor n (getD s 3 0) → to ≤ length s
+    unused-end to et = rw (et, en) (H .room)
 
-    module _ (c k from to : ℕ) (ec : c ≡ getD s 5 0) (ek : k ≡ getD s 3 0) (ef : from ≡ spaceFor n c) (et : to ≡ spaceFor n k) where
+    module _ (from to : ℕ) (ef : from ≡ spaceFor n (getD s 5 0)) (et : to ≡ spaceFor n (getD s 3 0)) where
       pub unused-start : from ≤ to
-      unused-start = rw (ef, et, en, ec, ek) (omega (arith, row-area))
+      unused-start = rw (ef, et, en) (omega (arith, row-area))
 
       pub unused-told : (z : Bool) → z ≡ allZero (take (to - from) (drop from s)) → z ≡ unusedKept s
       unfolding unusedKept
       unused-told z e =
           let q : spaceFor (getD s 1 0) (getD s 3 0) - spaceFor (getD s 1 0) (getD s 5 0) ≡ capacityIn s * (7 + sizeIn s) - countIn s * (7 + sizeIn s) = omega arith in
-          e ∙ rw (ef, et, en, ec, ek) (ap (λ (m : ℕ). allZero (take m (drop (spaceFor (getD s 1 0) (getD s 5 0)) s))) q)
+          e ∙ rw (ef, et, en) (ap (λ (m : ℕ). allZero (take m (drop (spaceFor (getD s 1 0) (getD s 5 0)) s))) q)
 
 -- all the parts
 module _ (s : List ℕ) (a : Bool) (ea : a ≡ kindsKept s) where

@@ -7,8 +7,21 @@ ghost use Rattle.meaning.specs.Tests.{between, every};
 ghost use Rattle.layout.specs.Layout.{capacityIn, holdsTable, rowsAt, rowsIn, sizeIn, spaceFor};
 ghost use Rattle.rowrules.specs.RowTests.{rowsKept};
 ghost use Rattle.rules.specs.TableTests.{clockIn, headKept, Headed, kindsIn, kindsKept, lastsKept, mostBeforeRows, mostWords, partsKept, sizesKept, totalsKept, unusedKept};
-
-const MARK: u32 = 1919904876;
+use layout::CAPACITY_AT;
+use layout::CLOCK_AT;
+use layout::COUNT_AT;
+use layout::KEY;
+use layout::KINDS_AT;
+use layout::LOADING_AT;
+use layout::MARK_AT;
+use layout::OBJECTS_AT;
+use layout::OWN_AT;
+use layout::SIZE_AT;
+use layout::TABLE_MARK;
+use layout::TOTAL_WORDS;
+use layout::TOTALS_AT;
+use tags::RowCount;
+use tags::Station;
 
 // What the seventh word holds when no load is under way.
 const IDLE: u32 = 0;
@@ -20,31 +33,6 @@ const GREATEST_CAPACITY: u32 = 512;
 const MOST_OBJECTS: u32 = 32;
 
 const GREATEST_KIND: u32 = 9;
-
-// Where the numbers of the head stand.
-const MARK_AT: usize = 0;
-
-const SIZE_AT: usize = 1;
-
-const OWN_AT: usize = 2;
-
-const CAPACITY_AT: usize = 3;
-
-const OBJECTS_AT: usize = 4;
-
-const COUNT_AT: usize = 5;
-
-const LOADING_AT: usize = 6;
-
-// Where the parts of a table stand.
-const KINDS_AT: usize = 7;
-
-const TOTALS_AT: usize = 39;
-
-const CLOCK_AT: usize = 103;
-
-// The words of a row ahead of its vector.
-const KEY: usize = 7;
 
 // Whether a number is from the least to the greatest.
 fn in_range(number: u32, least: u32, greatest: u32) -> bool
@@ -72,22 +60,23 @@ fn all_in_range(words: &[u32], least: u32, greatest: u32) -> bool
 }
 
 // Whether the head's numbers are in range.
-fn sizes_ok(size: u32, own: u32, capacity: u32, objects: u32, count: u32) -> bool
-    ensures { λ r. ⌜ r ≡ sizesKept size own capacity objects count ⌝ }
+fn sizes_ok(size: u32, own: Station, capacity: RowCount, objects: u32, count: RowCount) -> bool
+    ensures { λ r. ⌜ r ≡ sizesKept size (own .0) (capacity .0) objects (count .0) ⌝ }
 {
+    let most = capacity.0;
     if !in_range(size, 1, GREATEST_SIZE) {
         return false;
     }
-    if size <= own {
+    if size <= own.0 {
         return false;
     }
-    if !in_range(capacity, 1, GREATEST_CAPACITY) {
+    if !in_range(most, 1, GREATEST_CAPACITY) {
         return false;
     }
     if !in_range(objects, 1, MOST_OBJECTS) {
         return false;
     }
-    count <= capacity
+    count.0 <= most
 }
 
 // Where the rows of a group of this size start.
@@ -99,11 +88,11 @@ fn rows_at(size: usize) -> usize
 }
 
 // How many words a table needs.
-fn space_for(size: usize, capacity: usize) -> usize
-    requires { ⌜ (size ≤ 16) × (capacity ≤ 512) ⌝ }
-    ensures { λ r. ⌜ (r ≡ spaceFor size capacity) × (r ≤ mostWords) ⌝ }
+fn space_for(size: usize, capacity: RowCount) -> usize
+    requires { ⌜ (size ≤ 16) × (capacity .0 ≤ 512) ⌝ }
+    ensures { λ r. ⌜ (r ≡ spaceFor size (capacity .0)) × (r ≤ mostWords) ⌝ }
 {
-    rows_at(size) + capacity * (KEY + size)
+    rows_at(size) + tags::wide(capacity.0) * (KEY + size)
 }
 
 // Whether the words are enough for the table that the head describes.
@@ -111,7 +100,7 @@ fn has_room(s: &[u32]) -> bool
     requires { ⌜ (103 ≤ length (now s)) × (sizeIn (now s) ≤ 16) × (capacityIn (now s) ≤ 512) ⌝ }
     ensures { λ r. ⌜ r ≡ leb (spaceFor (sizeIn (now (s .entry))) (capacityIn (now (s .entry)))) (length (now (s .entry))) ⌝ }
 {
-    space_for(tags::wide(s[SIZE_AT]), tags::wide(s[CAPACITY_AT])) <= s.len()
+    space_for(tags::wide(s[SIZE_AT]), RowCount(s[CAPACITY_AT])) <= s.len()
 }
 
 // Whether the head is a table's.
@@ -119,7 +108,7 @@ fn head_ok(s: &[u32]) -> bool
     requires { ⌜ 103 ≤ length (now s) ⌝ }
     ensures { λ r. ⌜ r ≡ headKept (now (s .entry)) ⌝ }
 {
-    if s[MARK_AT] != MARK {
+    if s[MARK_AT] != TABLE_MARK {
         return false;
     }
     if s[LOADING_AT] != IDLE {
@@ -127,10 +116,10 @@ fn head_ok(s: &[u32]) -> bool
     }
     if sizes_ok(
         s[SIZE_AT],
-        s[OWN_AT],
-        s[CAPACITY_AT],
+        Station(s[OWN_AT]),
+        RowCount(s[CAPACITY_AT]),
         s[OBJECTS_AT],
-        s[COUNT_AT],
+        RowCount(s[COUNT_AT]),
     ) {
         return has_room(s);
     }
@@ -156,7 +145,7 @@ fn totals_ok(s: &[u32]) -> bool
 {
     let objects = tags::wide(s[OBJECTS_AT]);
     let kinds_end = KINDS_AT + objects;
-    let totals_end = TOTALS_AT + objects * clockrules::TOTAL_WORDS;
+    let totals_end = TOTALS_AT + objects * TOTAL_WORDS;
     let clock_end = CLOCK_AT + tags::wide(s[SIZE_AT]);
     let bound = clockrules::total_bound(&s[CLOCK_AT..clock_end]);
     if clockrules::each_total_ok(&s[KINDS_AT..kinds_end], &s[TOTALS_AT..], bound) {
@@ -171,11 +160,7 @@ fn lasts_ok(s: &[u32]) -> bool
     ensures { λ r. ⌜ r ≡ lastsKept (now (s .entry)) ⌝ }
 {
     let clock_end = CLOCK_AT + tags::wide(s[SIZE_AT]);
-    clockrules::each_last_ok(
-        &s[clock_end..],
-        &s[CLOCK_AT..clock_end],
-        tags::wide(s[OWN_AT]),
-    )
+    clockrules::each_last_ok(&s[clock_end..], &s[CLOCK_AT..clock_end], Station(s[OWN_AT]))
 }
 
 // Whether the rows keep their rules.
@@ -190,7 +175,7 @@ fn rows_kept(s: &[u32]) -> bool
     rowrules::rows_ok(
         &s[start..],
         KEY + size,
-        tags::wide(s[COUNT_AT]),
+        RowCount(s[COUNT_AT]),
         &s[KINDS_AT..kinds_end],
         &s[CLOCK_AT..clock_end],
     )
@@ -202,8 +187,8 @@ fn unused_ok(s: &[u32]) -> bool
     ensures { λ r. ⌜ r ≡ unusedKept (now (s .entry)) ⌝ }
 {
     let size = tags::wide(s[SIZE_AT]);
-    let start = space_for(size, tags::wide(s[COUNT_AT]));
-    let end = space_for(size, tags::wide(s[CAPACITY_AT]));
+    let start = space_for(size, RowCount(s[COUNT_AT]));
+    let end = space_for(size, RowCount(s[CAPACITY_AT]));
     rowrules::all_zero(&s[start..end])
 }
 

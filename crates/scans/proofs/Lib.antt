@@ -1,3 +1,4 @@
+pub mod Listing
 pub mod Showing
 pub mod Scanning
 pub mod Tabled

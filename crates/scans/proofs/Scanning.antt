@@ -3,7 +3,7 @@ use Prim.Native.Nat.{ℕ, zero, suc, _+_, _-_, _*_, _≤_, _<_}
 use mathlib.Core.Path.{_≡_, refl, sym, ap, _∙_, subst}
 use mathlib.Core.Bool.{Bool, true, false, not, _&&_, _||_, cond}
 use mathlib.Core.List.{List, [], _∷_, map}
-use native.Mathlib.Nat.{suc-mul}
+use native.Mathlib.Nat.{suc-mul, add-mul}
 use native.Mathlib.Omega.{arith}
 use borrow.Author.Tests.{eqb-true, eq-eqb, ne-eqb}
 use mir.Val.{Fits}
@@ -18,7 +18,8 @@ use Rattle.meaning.proofs.Tests.{iff, and-left, and-right, and-true}
 use Rattle.meaning.proofs.Steps.{and-false}
 use Rattle.layout.specs.Words.{pieces, ofTwoWords}
 use Rattle.layout.specs.Layout.{rowOf}
-use Rattle.scans.specs.Showing.{followed, shows, showsValue, valueShown, beforeShown, countShown, sameKey}
+use Rattle.scans.specs.Showing.{followed, shows, shown, showsValue, valueShown, beforeShown, countShown, sameKey}
+use Rattle.scans.proofs.Listing.{before-most, shown-none, shown-next, rows-number, rows-behind}
 
 -- a word of the row at a place
 word-at : (s : List ℕ) (w at i : ℕ) → i < w → getD (take w (drop at s)) i 0 ≡ getD s (at + i) 0
@@ -136,100 +137,129 @@ module _ (s : List ℕ) (w at more o : ℕ) (room : at + more * w ≤ length s) 
       unfolding sameKey
       by-key r e = e ∙ rw own (sym decided)
 
--- Where a walk stands: so many words behind, so many rows ahead.
-module _ (s : List ℕ) (w count at more : ℕ) (size : at + more * w ≡ count * w) where
-  walk-room : count * w ≤ length s → at + more * w ≤ length s
+-- Where a walk from a place on stands: so many words behind, so many rows ahead.
+module _ (s : List ℕ) (w from count at more : ℕ) (size : at + more * w ≡ from + count * w) where
+  walk-room : from + count * w ≤ length s → at + more * w ≤ length s
   walk-room room = omega (arith, size)
 
   module _ (h : 0 < more) where
     one : more ≡ suc (more - 1)
     one = omega arith
 
-    walk-on : at + w + (more - 1) * w ≡ count * w
+    walk-on : at + w + (more - 1) * w ≡ from + count * w
     walk-on = omega (arith, rw one at size, suc-mul (more - 1) w)
 
-    walk-first : count * w ≤ length s → 7 ≤ w → at + 7 ≤ length s
+    walk-first : from + count * w ≤ length s → 7 ≤ w → at + 7 ≤ length s
     walk-first room wide = omega (arith, walk-on)
 
-    walk-fits : count * w ≤ length s → length s * 4 < 9223372036854775808 → Fits w64 (at + w)
+    walk-fits : from + count * w ≤ length s → length s * 4 < 9223372036854775808 → Fits w64 (at + w)
     walk-fits room b = omega (arith, walk-on)
 
--- Passing the rows: so many words and rows lie behind, and what is asked of all is what was found and what is asked of the rest.
-pub record Passing (s : List ℕ) (w count : ℕ) (asked : List Row → ℕ) (at more found : ℕ) : Type 0 where
-  pub size : at + more * w ≡ count * w
+-- Passing the rows from a place on: so many words and rows lie behind, and what is asked of all is what was found and what is asked of the rest.
+pub record Passing (s : List ℕ) (w from count : ℕ) (asked : List Row → ℕ) (at more found : ℕ) : Type 0 where
+  pub size : at + more * w ≡ from + count * w
   pub within : found + more ≤ count
-  pub number : asked (map rowOf (pieces w count s)) ≡ found + asked (map rowOf (pieces w more (drop at s)))
+  pub number : asked (map rowOf (pieces w count (drop from s))) ≡ found + asked (map rowOf (pieces w more (drop at s)))
 
-pub passing-start : (s : List ℕ) (w count : ℕ) (asked : List Row → ℕ) → Passing s w count asked 0 count 0
-passing-start s w count asked = record { size = omega arith; within = omega arith; number = omega arith }
+pub passing-start : (s : List ℕ) (w from count : ℕ) (asked : List Row → ℕ) → Passing s w from count asked from count 0
+passing-start s w from count asked = record { size = omega arith; within = omega arith; number = omega arith }
 
-module _ (s : List ℕ) (w count : ℕ) (asked : List Row → ℕ) (at more found : ℕ) (P : Passing s w count asked at more found) where
-  all-passed : more ≤ 0 → asked [] ≡ 0 → found ≡ asked (map rowOf (pieces w count s))
+module _ (s : List ℕ) (w from count : ℕ) (asked : List Row → ℕ) (at more found : ℕ) (P : Passing s w from count asked at more found) where
+  all-passed : more ≤ 0 → asked [] ≡ 0 → found ≡ asked (map rowOf (pieces w count (drop from s)))
   all-passed h none = let z : more ≡ 0 = omega arith in sym (rw z at P .number ∙ ap (λ (k : ℕ). found + k) none ∙ omega arith)
 
-  pub passing-room : count * w ≤ length s → at + more * w ≤ length s
-  passing-room = walk-room s w count at more (P .size)
+  pub passing-room : from + count * w ≤ length s → at + more * w ≤ length s
+  passing-room = walk-room s w from count at more (P .size)
 
   module _ (h : 0 < more) where
-    pub first-room : count * w ≤ length s → 7 ≤ w → at + 7 ≤ length s
-    first-room = walk-first s w count at more (P .size) h
+    pub first-room : from + count * w ≤ length s → 7 ≤ w → at + 7 ≤ length s
+    first-room = walk-first s w from count at more (P .size) h
 
-    pub next-fits : count * w ≤ length s → length s * 4 < 9223372036854775808 → Fits w64 (at + w)
-    next-fits = walk-fits s w count at more (P .size) h
-
-    next-passing : (n : ℕ) → n ≤ 1 → asked (map rowOf (pieces w more (drop at s))) ≡ n + asked (map rowOf (pieces w (more - 1) (drop (at + w) s))) → Passing s w count asked (at + w) (more - 1) (found + n)
-    next-passing n l e = record { size = walk-on s w count at more (P .size) h; within = omega (arith, P .within); number = P .number ∙ ap (λ (k : ℕ). found + k) e ∙ omega arith }
+    pub next-fits : from + count * w ≤ length s → length s * 4 < 9223372036854775808 → Fits w64 (at + w)
+    next-fits = walk-fits s w from count at more (P .size) h
 
 -- the first row ahead, shown or not
 module _ (s : List ℕ) (w o at more : ℕ) (h : 0 < more) (r : Bool) (e : r ≡ shows o (rowOf (take w (drop at s))) (map rowOf (pieces w (more - 1) (drop (at + w) s)))) where
   abbrev rest : List Row
   rest = map rowOf (pieces w (more - 1) (drop (at + w) s))
 
-  first-ahead : (asked : List Row → ℕ) (m : ℕ) → 0 < m → asked (map rowOf (pieces w m (drop at s))) ≡ asked (rowOf (take w (drop at s)) ∷ map rowOf (pieces w (m - 1) (drop (at + w) s)))
-  first-ahead asked zero k = absurd (omega arith)
-  first-ahead asked (suc m) k = let p : suc m - 1 ≡ m = omega arith in rw (drop-drop w at s) (rw p refl)
-
-  before-ahead : beforeShown o (map rowOf (pieces w more (drop at s))) ≡ cond r 0 (suc (beforeShown o rest))
+  before-ahead : (m : ℕ) → 0 < m → r ≡ shows o (rowOf (take w (drop at s))) (map rowOf (pieces w (m - 1) (drop (at + w) s))) → beforeShown o (map rowOf (pieces w m (drop at s))) ≡ cond r 0 (suc (beforeShown o (map rowOf (pieces w (m - 1) (drop (at + w) s)))))
   unfolding beforeShown
-  before-ahead = first-ahead (beforeShown o) more h ∙ first r e
-    where
-      first : (b : Bool) → b ≡ shows o (rowOf (take w (drop at s))) rest → beforeShown o (rowOf (take w (drop at s)) ∷ rest) ≡ cond b 0 (suc (beforeShown o rest))
-      first b k = rw (sym k) refl
+  before-ahead zero k f = absurd (omega arith)
+  before-ahead (suc m) k f = let p : suc m - 1 ≡ m = omega arith in rw (drop-drop w at s) (rw p (rw (sym (rw p at f)) refl))
 
-  count-ahead : countShown o (map rowOf (pieces w more (drop at s))) ≡ cond r (suc (countShown o rest)) (countShown o rest)
+  module _ (from count found : ℕ) (P : Passing s w from count (beforeShown o) at more found) where
+    pub passing-found : r ≡ true → found ≡ beforeShown o (map rowOf (pieces w count (drop from s)))
+    passing-found t = sym (P .number ∙ ap (λ (k : ℕ). found + k) (before-ahead more h e ∙ ap (λ (b : Bool). cond b 0 (suc (beforeShown o rest))) t) ∙ omega arith)
+
+    pub passing-next : r ≡ false → Passing s w from count (beforeShown o) (at + w) (more - 1) (found + 1)
+    passing-next t = record {
+      size = walk-on s w from count at more (P .size) h;
+      within = omega (arith, P .within);
+      number = P .number ∙ ap (λ (k : ℕ). found + k) (before-ahead more h e ∙ ap (λ (b : Bool). cond b 0 (suc (beforeShown o rest))) t) ∙ omega arith;
+    }
+
+pub passing-done : (s : List ℕ) (w from count o at more found : ℕ) → more ≤ 0 → Passing s w from count (beforeShown o) at more found → found ≡ beforeShown o (map rowOf (pieces w count (drop from s)))
+unfolding beforeShown
+passing-done s w from count o at more found h P = all-passed s w from count (beforeShown o) at more found P h refl
+
+-- Behind the next row that shows a value: so many rows and it are passed.
+module _ (s : List ℕ) (w o at more passed : ℕ) (p : passed ≡ beforeShown o (map rowOf (pieces w more (drop at s)))) where
+  passed-most : passed ≤ more
+  passed-most = omega (arith, p, before-most o (map rowOf (pieces w more (drop at s))), rows-number w more (drop at s))
+
+  pub none-left : passed ≡ more → shown o (map rowOf (pieces w more (drop at s))) ≡ []
+  none-left e = shown-none o (map rowOf (pieces w more (drop at s))) (sym p ∙ e ∙ sym (rows-number w more (drop at s)))
+
+  module _ (n : passed ≡ more → ⊥) where
+    passed-less : passed < more
+    passed-less = omega (arith, n, passed-most)
+
+    pub step-most : passed + 1 ≤ more
+    step-most = omega (arith, passed-less)
+
+    pub step-small : (count found : ℕ) → Passing s w 0 count (countShown o) at more found → Fits w32 count → Fits w32 (passed + 1)
+    step-small count found P f = omega (arith, passed-less, P .within, f)
+
+    pub next-and-rest : shown o (map rowOf (pieces w more (drop at s))) ≡ rowOf (take w (drop (at + passed * w) s)) .operation .value ∷ shown o (map rowOf (pieces w (more - (passed + 1)) (drop (at + (passed + 1) * w) s)))
+    next-and-rest = shown-next o (map rowOf (pieces w more (drop at s))) _ _ (ap (λ (k : ℕ). drop k (map rowOf (pieces w more (drop at s)))) (sym p) ∙ rows-behind w more passed at s passed-less)
+
+    count-rest : countShown o (map rowOf (pieces w more (drop at s))) ≡ 1 + countShown o (map rowOf (pieces w (more - (passed + 1)) (drop (at + (passed + 1) * w) s)))
+    unfolding countShown
+    count-rest = ap length next-and-rest ∙ omega arith
+
+    step-words : (passed + 1) * w + (more - (passed + 1)) * w ≡ more * w
+    step-words = let e : more ≡ (passed + 1) + (more - (passed + 1)) = omega (arith, passed-less) in omega (arith, add-mul (passed + 1) (more - (passed + 1)) w, ap (λ (k : ℕ). k * w) e)
+
+    module _ (step : ℕ) (e : step ≡ passed + 1) where
+      pub step-fits : at + more * w ≤ length s → length s * 4 < 9223372036854775808 → Fits w64 (step * w)
+      step-fits room b = rw e (omega (arith, step-words))
+
+      pub behind-fits : at + more * w ≤ length s → length s * 4 < 9223372036854775808 → Fits w64 (at + step * w)
+      behind-fits room b = rw e (omega (arith, step-words))
+
+      pub counting-next : (count found : ℕ) → Passing s w 0 count (countShown o) at more found → Passing s w 0 count (countShown o) (at + step * w) (more - (passed + 1)) (found + 1)
+      counting-next count found P = rw e (record {
+        size = omega (arith, P .size, step-words);
+        within = omega (arith, P .within, passed-less);
+        number = P .number ∙ ap (λ (k : ℕ). found + k) count-rest ∙ omega arith;
+      })
+
+  pub counting-none : (count found : ℕ) → Passing s w 0 count (countShown o) at more found → passed ≡ more → found ≡ countShown o (map rowOf (pieces w count s))
   unfolding countShown
-  count-ahead = first-ahead (countShown o) more h ∙ first r e
-    where
-      first : (b : Bool) → b ≡ shows o (rowOf (take w (drop at s))) rest → countShown o (rowOf (take w (drop at s)) ∷ rest) ≡ cond b (suc (countShown o rest)) (countShown o rest)
-      first true k = rw (sym k) refl
-      first false k = rw (sym k) refl
+  counting-none count found P e = sym (P .number ∙ ap (λ (l : List ℕ). found + length l) (none-left e) ∙ omega arith)
 
-  module _ (count found : ℕ) (P : Passing s w count (beforeShown o) at more found) where
-    pub passing-found : r ≡ true → found ≡ beforeShown o (map rowOf (pieces w count s))
-    passing-found t = sym (P .number ∙ ap (λ (k : ℕ). found + k) (before-ahead ∙ ap (λ (b : Bool). cond b 0 (suc (beforeShown o rest))) t) ∙ omega arith)
+module _ (s : List ℕ) (w count o at more found : ℕ) (P : Passing s w 0 count (countShown o) at more found) where
+  pub counting-room : count * w ≤ length s → at + more * w ≤ length s
+  counting-room room = walk-room s w 0 count at more (P .size) (omega arith)
 
-    pub passing-next : r ≡ false → Passing s w count (beforeShown o) (at + w) (more - 1) (found + 1)
-    passing-next t = next-passing s w count (beforeShown o) at more found P h 1 (omega arith) (before-ahead ∙ ap (λ (b : Bool). cond b 0 (suc (beforeShown o rest))) t ∙ omega arith)
-
-  module _ (count found : ℕ) (P : Passing s w count (countShown o) at more found) where
-    pub counting-shown : r ≡ true → Passing s w count (countShown o) (at + w) (more - 1) (found + 1)
-    counting-shown t = next-passing s w count (countShown o) at more found P h 1 (omega arith) (count-ahead ∙ ap (λ (b : Bool). cond b (suc (countShown o rest)) (countShown o rest)) t ∙ omega arith)
-
-    pub counting-other : r ≡ false → Passing s w count (countShown o) (at + w) (more - 1) found
-    counting-other t = let z : found + 0 ≡ found = omega arith in subst (λ (k : ℕ). Passing s w count (countShown o) (at + w) (more - 1) k) z (next-passing s w count (countShown o) at more found P h 0 (omega arith) (count-ahead ∙ ap (λ (b : Bool). cond b (suc (countShown o rest)) (countShown o rest)) t ∙ omega arith))
-
-module _ (s : List ℕ) (w count o at more found : ℕ) (h : more ≤ 0) where
-  pub passing-done : Passing s w count (beforeShown o) at more found → found ≡ beforeShown o (map rowOf (pieces w count s))
-  unfolding beforeShown
-  passing-done P = all-passed s w count (beforeShown o) at more found P h refl
-
-  pub counting-done : Passing s w count (countShown o) at more found → found ≡ countShown o (map rowOf (pieces w count s))
+  pub counting-done : more ≤ 0 → found ≡ countShown o (map rowOf (pieces w count s))
   unfolding countShown
-  counting-done P = all-passed s w count (countShown o) at more found P h refl
+  counting-done h = all-passed s w 0 count (countShown o) at more found P h refl
 
 -- Seeking a value: it is shown in all the rows if it is in the rest.
 pub record Seeking (s : List ℕ) (w count o v at more : ℕ) : Type 0 where
-  pub size : at + more * w ≡ count * w
+  pub size : at + more * w ≡ 0 + count * w
   pub same-answer : valueShown o v (map rowOf (pieces w count s)) ≡ valueShown o v (map rowOf (pieces w more (drop at s)))
 
 pub seeking-start : (s : List ℕ) (w count o v : ℕ) → Seeking s w count o v 0 count
@@ -237,7 +267,7 @@ seeking-start s w count o v = record { size = omega arith; same-answer = refl }
 
 module _ (s : List ℕ) (w count o v at more : ℕ) (K : Seeking s w count o v at more) where
   pub seeking-room : count * w ≤ length s → at + more * w ≤ length s
-  seeking-room = walk-room s w count at more (K .size)
+  seeking-room room = walk-room s w 0 count at more (K .size) (omega arith)
 
   pub seeking-done : more ≤ 0 → false ≡ valueShown o v (map rowOf (pieces w count s))
   unfolding valueShown
@@ -245,10 +275,10 @@ module _ (s : List ℕ) (w count o v at more : ℕ) (K : Seeking s w count o v a
 
   module _ (h : 0 < more) where
     pub seek-first-room : count * w ≤ length s → 7 ≤ w → at + 7 ≤ length s
-    seek-first-room = walk-first s w count at more (K .size) h
+    seek-first-room room wide = walk-first s w 0 count at more (K .size) h (omega arith) wide
 
     pub seek-fits : count * w ≤ length s → length s * 4 < 9223372036854775808 → Fits w64 (at + w)
-    seek-fits = walk-fits s w count at more (K .size) h
+    seek-fits room b = walk-fits s w 0 count at more (K .size) h (omega arith) b
 
     value-ahead : (m : ℕ) → 0 < m → (b : Bool) → b ≡ showsValue o v (rowOf (take w (drop at s))) (map rowOf (pieces w (m - 1) (drop (at + w) s))) → valueShown o v (map rowOf (pieces w m (drop at s))) ≡ (b || valueShown o v (map rowOf (pieces w (m - 1) (drop (at + w) s))))
     unfolding valueShown
@@ -259,4 +289,4 @@ module _ (s : List ℕ) (w count o v at more : ℕ) (K : Seeking s w count o v a
     value-found r e t = sym (K .same-answer ∙ value-ahead more h true (sym t ∙ e))
 
     pub seeking-next : (r : Bool) → r ≡ showsValue o v (rowOf (take w (drop at s))) (map rowOf (pieces w (more - 1) (drop (at + w) s))) → r ≡ false → Seeking s w count o v (at + w) (more - 1)
-    seeking-next r e t = record { size = walk-on s w count at more (K .size) h; same-answer = K .same-answer ∙ value-ahead more h false (sym t ∙ e) }
+    seeking-next r e t = record { size = walk-on s w 0 count at more (K .size) h; same-answer = K .same-answer ∙ value-ahead more h false (sym t ∙ e) }

@@ -8,15 +8,12 @@ ghost use Rattle.layout.specs.Words.{pieces};
 ghost use Rattle.layout.specs.Layout.{rowOf};
 ghost use Rattle.placing.specs.Placing.{keyWords};
 ghost use Rattle.scans.specs.Showing.{beforeShown, countShown, sameKey, shows, showsValue, valueShown};
+use layout::CODE_AT;
+use layout::HIGH_AT;
+use layout::LOW_AT;
+use tags::RowCount;
 
 const ADDS: u32 = 1;
-
-// Where the words of a row stand.
-const HIGH_AT: usize = 1;
-
-const LOW_AT: usize = 2;
-
-const CODE_AT: usize = 3;
 
 // Values are 32-bit numbers: their high word is 0.
 const NO_HIGH: u32 = 0;
@@ -36,9 +33,9 @@ fn differ(rows: &[u32], at: usize, next: usize) -> bool
 }
 
 // Whether the row at a place shows a value of the object: an add row, and the row behind it is of another value.
-fn shows_at(rows: &[u32], width: usize, at: usize, more: usize, object: u32) -> bool
-    requires { ⌜ (at + more * width ≤ length (now rows)) × (0 < more) × (keyWords ≤ width) × (at + keyWords ≤ length (now rows)) ⌝ }
-    ensures { λ r. ⌜ r ≡ shows object (rowOf (take width (drop at (now (rows .entry))))) (map rowOf (pieces width (more - 1) (drop (at + width) (now (rows .entry))))) ⌝ }
+fn shows_at(rows: &[u32], width: usize, at: usize, more: RowCount, object: u32) -> bool
+    requires { ⌜ (at + more .0 * width ≤ length (now rows)) × (0 < more .0) × (keyWords ≤ width) × (at + keyWords ≤ length (now rows)) ⌝ }
+    ensures { λ r. ⌜ r ≡ shows object (rowOf (take width (drop at (now (rows .entry))))) (map rowOf (pieces width (more .0 - 1) (drop (at + width) (now (rows .entry))))) ⌝ }
 {
     if rows[at] != object {
         return false;
@@ -46,7 +43,7 @@ fn shows_at(rows: &[u32], width: usize, at: usize, more: usize, object: u32) -> 
     if rows[at + CODE_AT] != ADDS {
         return false;
     }
-    if more == 1 {
+    if more.0 == 1 {
         return true;
     }
     differ(rows, at, at + width)
@@ -57,12 +54,12 @@ fn shows_value_at(
     rows: &[u32],
     width: usize,
     at: usize,
-    more: usize,
+    more: RowCount,
     object: u32,
     value: u32,
 ) -> bool
-    requires { ⌜ (at + more * width ≤ length (now rows)) × (0 < more) × (keyWords ≤ width) × (at + keyWords ≤ length (now rows)) ⌝ }
-    ensures { λ r. ⌜ r ≡ showsValue object value (rowOf (take width (drop at (now (rows .entry))))) (map rowOf (pieces width (more - 1) (drop (at + width) (now (rows .entry))))) ⌝ }
+    requires { ⌜ (at + more .0 * width ≤ length (now rows)) × (0 < more .0) × (keyWords ≤ width) × (at + keyWords ≤ length (now rows)) ⌝ }
+    ensures { λ r. ⌜ r ≡ showsValue object value (rowOf (take width (drop at (now (rows .entry))))) (map rowOf (pieces width (more .0 - 1) (drop (at + width) (now (rows .entry))))) ⌝ }
 {
     if rows[at + HIGH_AT] != NO_HIGH {
         return false;
@@ -74,14 +71,14 @@ fn shows_value_at(
 }
 
 // Whether a value of the object is shown.
-pub fn value_shown(rows: &[u32], width: usize, count: usize, object: u32, value: u32) -> bool
-    requires { ⌜ (count * width ≤ length (now rows)) × (keyWords ≤ width) ⌝ }
-    ensures { λ r. ⌜ r ≡ valueShown object value (map rowOf (pieces width count (now (rows .entry)))) ⌝ }
+pub fn value_shown(rows: &[u32], width: usize, count: RowCount, object: u32, value: u32) -> bool
+    requires { ⌜ (count .0 * width ≤ length (now rows)) × (keyWords ≤ width) ⌝ }
+    ensures { λ r. ⌜ r ≡ valueShown object value (map rowOf (pieces width (count .0) (now (rows .entry)))) ⌝ }
 {
     let mut at = 0;
-    let mut more = count;
+    let mut more = count.0;
     while 0 < more {
-        if shows_value_at(rows, width, at, more, object, value) {
+        if shows_value_at(rows, width, at, RowCount(more), object, value) {
             return true;
         }
         at += width;
@@ -90,43 +87,42 @@ pub fn value_shown(rows: &[u32], width: usize, count: usize, object: u32, value:
     false
 }
 
-// How many rows stand before the first that shows a value of the object.
-pub fn next_shown(rows: &[u32], width: usize, count: usize, object: u32) -> usize
-    requires { ⌜ (count * width ≤ length (now rows)) × (keyWords ≤ width) ⌝ }
-    ensures { λ r. ⌜ r ≡ beforeShown object (map rowOf (pieces width count (now (rows .entry)))) ⌝ }
+// How many rows stand, from a place on, before the next that shows a value of the object: all that are left if none does.
+pub fn next_shown(rows: &[u32], width: usize, at: usize, more: RowCount, object: u32) -> RowCount
+    requires { ⌜ (at + more .0 * width ≤ length (now rows)) × (keyWords ≤ width) ⌝ }
+    ensures { λ r. ⌜ r .0 ≡ beforeShown object (map rowOf (pieces width (more .0) (drop at (now (rows .entry))))) ⌝ }
 {
-    let mut at = 0;
-    let mut more = count;
+    let mut place = at;
+    let mut ahead = more.0;
     let mut passed = 0;
-    while 0 < more {
-        if shows_at(rows, width, at, more, object) {
-            return passed;
+    while 0 < ahead {
+        if shows_at(rows, width, place, RowCount(ahead), object) {
+            return RowCount(passed);
         }
-        at += width;
-        more -= 1;
+        place += width;
+        ahead -= 1;
         passed += 1;
     }
-    passed
+    RowCount(passed)
 }
 
 // How many values of the object are shown: the headcount, which never counts log rows.
-pub fn count_shown(rows: &[u32], width: usize, count: usize, object: u32) -> usize
-    requires { ⌜ (count * width ≤ length (now rows)) × (keyWords ≤ width) ⌝ }
-    ensures { λ r. ⌜ r ≡ countShown object (map rowOf (pieces width count (now (rows .entry)))) ⌝ }
+pub fn count_shown(rows: &[u32], width: usize, count: RowCount, object: u32) -> RowCount
+    requires { ⌜ (count .0 * width ≤ length (now rows)) × (keyWords ≤ width) ⌝ }
+    ensures { λ r. ⌜ r .0 ≡ countShown object (map rowOf (pieces width (count .0) (now (rows .entry)))) ⌝ }
 {
     let mut at = 0;
-    let mut more = count;
+    let mut more = count.0;
     let mut found = 0;
     while 0 < more {
-        let end = at + width;
-        let shown = shows_at(rows, width, at, more, object);
-        more -= 1;
-        if shown {
-            found += 1;
-            at = end;
-        } else {
-            at = end;
+        let passed = next_shown(rows, width, at, RowCount(more), object).0;
+        if passed == more {
+            return RowCount(found);
         }
+        let step = passed + 1;
+        at += tags::wide(step) * width;
+        more -= step;
+        found += 1;
     }
-    found
+    RowCount(found)
 }

@@ -5,8 +5,6 @@ use mathlib.Core.Bool.{Bool, true, false, not}
 use mathlib.Core.List.{List, [], _∷_, _++_, append-assoc, append-nil, map}
 use native.Mathlib.Nat.{mul-le-mul, mul-le-mul-right}
 use native.Mathlib.Omega.{arith}
-use mir.Val.{Fits}
-use mir.Syntax.{w32}
 use lib.ListN.{length, getD, take, drop, set, length-drop, length-map, drop-of-length-le}
 use lib.Seq.{take-all}
 use Rattle.meaning.specs.Tests.{those}
@@ -16,8 +14,8 @@ use Rattle.meaning.specs.Table.{Table}
 use Rattle.meaning.specs.Calls.{withRows}
 use Rattle.layout.specs.Words.{pieces, flat, padded}
 use Rattle.layout.specs.Layout.{Laid, rowOf, tableOf, rewritten, sizeIn, capacityIn, countIn, rowsIn, rowsAt}
-use Rattle.layout.proofs.Pieces.{length-pieces, those-map}
-use Rattle.layout.proofs.Whole.{area, put-filtered, those-short}
+use Rattle.layout.proofs.Pieces.{those-map}
+use Rattle.layout.proofs.Whole.{area, put-filtered}
 use Rattle.rows.specs.Arriving.{operationOf, goes, rowGoes, leftBy, staying}
 use Rattle.rows.specs.declared.Arrival.{Arrival}
 use Rattle.table.specs.Changes.{Opened, rowsLeft}
@@ -68,10 +66,6 @@ module _ (s : List ℕ) (n count : ℕ) (a : Arrival) (v : Vector) (O : Opened s
 
   pub left-count : (k : ℕ) → k ≡ length (staying a v (7 + n) count part) → k ≡ length (rowsLeft a v (tableOf s))
   left-count k e = e ∙ ap length staying-is ∙ sym rows-are
-
-  pub left-fits : (k : ℕ) → k ≡ length (staying a v (7 + n) count part) → Fits w32 k
-  unfolding left-words
-  left-fits k e = let f = e ∙ ap length staying-is in omega (arith, f, those-short (λ (ws : List ℕ). not (rowGoes a v ws)) (rowsIn s), length-pieces (7 + sizeIn s) (countIn s) (drop (rowsAt (sizeIn s)) s), O .less, O .count-is)
 
   pub dropped : (k : ℕ) (x : List ℕ) → k ≡ length (staying a v (7 + n) count part) → x ≡ padded (count * (7 + n)) (flat (staying a v (7 + n) count part)) ++ drop (count * (7 + n)) part →
       set (take base s ++ (x ++ drop (length s - base) (drop base s))) 5 k ≡ rewritten s (withRows (tableOf s) (rowsLeft a v (tableOf s)))

@@ -5,8 +5,6 @@ use mathlib.Core.List.{List, [], _∷_, _++_, append-assoc, append-nil, map}
 use native.Mathlib.Nat.{mul-le-mul-right, suc-mul}
 use native.Mathlib.Numerals.{add-one}
 use native.Mathlib.Omega.{arith}
-use mir.Val.{Fits}
-use mir.Syntax.{w32}
 use lib.ListN.{length, take, drop, set, replicate, length-drop, length-append}
 use lib.Seq.{drop-drop}
 use Rattle.meaning.specs.Rows.{Row, insertRow}
@@ -36,9 +34,6 @@ module _ (s key v : List ℕ) (n count : ℕ) (O : Opened s n count) (less : cou
 
   pub insert-room : count * (7 + n) + (7 + n) ≤ length part
   insert-room = rw (all-of s base, length-drop base s) (omega (arith, room, wider))
-
-  pub count-fits : Fits w32 (count + 1)
-  count-fits = omega (arith, O .less)
 
 -- with the head's own numbers
 module _ (s key v : List ℕ) (T : Laid s) (less : countIn s < capacityIn s) (seven : length key ≡ 7) (long : length v ≡ sizeIn s) (spelt : rowWords (sizeIn s) (rowOf (key ++ v)) ≡ key ++ v) where

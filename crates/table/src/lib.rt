@@ -9,47 +9,43 @@ ghost use Rattle.meaning.specs.Calls.{withRows};
 ghost use Rattle.layout.specs.Layout.{capacityIn, objectsIn, rewritten, rowOf, rowWords, tableOf, withClock, withLast, withTotals};
 ghost use Rattle.placing.specs.Placing.{keyWords};
 ghost use Rattle.table.specs.Changes.{entryBelowLimit, Opened, rowsLeft, totalsChanged};
+use layout::CLOCK_AT;
+use layout::COUNT_AT;
+use layout::KEY;
+use layout::TOTAL_WORDS;
+use layout::TOTALS_AT;
 use rows::Arrival;
+use tags::RowCount;
 use tags::Station;
 use totals::Total;
 
-// Where the parts of a table stand.
-const COUNT_AT: usize = 5;
-
-const TOTALS_AT: usize = 39;
-
-const CLOCK_AT: usize = 103;
-
-// A row's words before its vector.
-const KEY: usize = 7;
-
 // Drops the rows that go when an operation arrives, and counts the others.
-pub fn drop_going(s: &mut [u32], size: usize, count: usize, a: Arrival, v: &[u32]) -> usize
-    requires { ⌜ Opened (now s) size count × (length (now v) ≡ size) ⌝ }
-    ensures { λ r. ⌜ (r ≡ length (rowsLeft a (now (v .entry)) (tableOf (now (s .entry))))) × (now (s .exit) ≡ rewritten (now (s .entry)) (withRows (tableOf (now (s .entry))) (rowsLeft a (now (v .entry)) (tableOf (now (s .entry)))))) ⌝ }
+pub fn drop_going(s: &mut [u32], size: usize, count: RowCount, a: Arrival, v: &[u32]) -> RowCount
+    requires { ⌜ Opened (now s) size (count .0) × (length (now v) ≡ size) ⌝ }
+    ensures { λ r. ⌜ (r .0 ≡ length (rowsLeft a (now (v .entry)) (tableOf (now (s .entry))))) × (now (s .exit) ≡ rewritten (now (s .entry)) (withRows (tableOf (now (s .entry))) (rowsLeft a (now (v .entry)) (tableOf (now (s .entry)))))) ⌝ }
 {
     let width = KEY + size;
     let base = CLOCK_AT + size + size * size;
     let left = rows::drop_rows(&mut s[base..], width, count, a, v);
-    s[COUNT_AT] = left as u32;
+    s[COUNT_AT] = left.0;
     left
 }
 
 // Puts a row, its key and its vector, at its ordered place.
-pub fn put_row(s: &mut [u32], size: usize, count: usize, key: &[u32], v: &[u32])
-    requires { ⌜ Opened (now s) size count × (count < capacityIn (now s)) ⌝ }
+pub fn put_row(s: &mut [u32], size: usize, count: RowCount, key: &[u32], v: &[u32])
+    requires { ⌜ Opened (now s) size (count .0) × (count .0 < capacityIn (now s)) ⌝ }
     requires { ⌜ (length (now key) ≡ keyWords) × (length (now v) ≡ size) × (rowWords size (rowOf (now key ++ now v)) ≡ now key ++ now v) ⌝ }
     ensures { λ _. ⌜ now (s .exit) ≡ rewritten (now (s .entry)) (withRows (tableOf (now (s .entry))) (insertRow (rowOf (now (key .entry) ++ now (v .entry))) (tableOf (now (s .entry)) .rows))) ⌝ }
 {
     let width = KEY + size;
     let base = CLOCK_AT + size + size * size;
     placing::insert_row(&mut s[base..], width, count, key, v);
-    s[COUNT_AT] = (count + 1) as u32;
+    s[COUNT_AT] = count.0 + 1;
 }
 
 // Advances the clock where it stands: "the last number accepted" of the sender is one higher.
-pub fn advance_clock(s: &mut [u32], size: usize, count: usize, sender: Station)
-    requires { ⌜ Opened (now s) size count × (sender .0 < size) × entryBelowLimit (tableOf (now s)) (sender .0) ⌝ }
+pub fn advance_clock(s: &mut [u32], size: usize, count: RowCount, sender: Station)
+    requires { ⌜ Opened (now s) size (count .0) × (sender .0 < size) × entryBelowLimit (tableOf (now s)) (sender .0) ⌝ }
     ensures { λ _. ⌜ now (s .exit) ≡ rewritten (now (s .entry)) (withClock (tableOf (now (s .entry))) (raised (tableOf (now (s .entry)) .clock) (sender .0))) ⌝ }
 {
     let end = CLOCK_AT + size;
@@ -57,8 +53,8 @@ pub fn advance_clock(s: &mut [u32], size: usize, count: usize, sender: Station)
 }
 
 // Writes the vector of the last frame accepted from a station.
-pub fn write_last(s: &mut [u32], size: usize, count: usize, station: Station, v: &[u32])
-    requires { ⌜ Opened (now s) size count × (station .0 < size) × (length (now v) ≡ size) ⌝ }
+pub fn write_last(s: &mut [u32], size: usize, count: RowCount, station: Station, v: &[u32])
+    requires { ⌜ Opened (now s) size (count .0) × (station .0 < size) × (length (now v) ≡ size) ⌝ }
     ensures { λ _. ⌜ now (s .exit) ≡ rewritten (now (s .entry)) (withLast (tableOf (now (s .entry))) (set (tableOf (now (s .entry)) .last) (station .0) (now (v .entry)))) ⌝ }
 {
     let at = CLOCK_AT + size + tags::wide(station.0) * size;
@@ -69,15 +65,15 @@ pub fn write_last(s: &mut [u32], size: usize, count: usize, station: Station, v:
 pub fn change_total(
     s: &mut [u32],
     size: usize,
-    count: usize,
+    count: RowCount,
     object: usize,
     amount: u32,
     increase: bool,
 )
-    requires { ⌜ Opened (now s) size count × (object < objectsIn (now s)) ⌝ }
+    requires { ⌜ Opened (now s) size (count .0) × (object < objectsIn (now s)) ⌝ }
     ensures { λ _. ⌜ now (s .exit) ≡ rewritten (now (s .entry)) (withTotals (tableOf (now (s .entry))) (totalsChanged object amount increase (tableOf (now (s .entry))))) ⌝ }
 {
-    let at = TOTALS_AT + object * 2;
+    let at = TOTALS_AT + object * TOTAL_WORDS;
     let old = Total(s[at], s[at + 1]);
     let new = totals::changed(old, amount, increase);
     s[at] = new.0;

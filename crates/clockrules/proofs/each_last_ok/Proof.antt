@@ -4,6 +4,7 @@ use Prim.Native.Nat.{_-_}
 use lib.ListN.{length}
 use borrow.Author.Tests.{not-true, not-false}
 use Rattle.clockrules.specs.ClockTests.{lastKept}
+use Rattle.clockrules.proofs.Totals.{station-fits}
 use Rattle.rowrules.proofs.Scanning.{Passed, pass-start, piece-room, end-fits, start-fits, piece-long, piece-fails, piece-holds, pass-done}
 use native.Mathlib.Omega.{arith}
 use borrow.Author.Needs.{needs}
@@ -11,7 +12,7 @@ use Rattle.clockrules.proofs.each_last_ok.Statement.{statement}
 use Rattle.clockrules.proofs.each_last_ok.Tie as tie
 
 abbrev Inv-loop : tie.InvT-loop
-Inv-loop lasts clock own good₀ k₀ at₀ good k at = Passed (lastKept own clock) (length clock) (length clock) lasts good k at
+Inv-loop lasts clock own good₀ k₀ at₀ good k at = Passed (lastKept (own .0) clock) (length clock) (length clock) lasts good k at
 
 abbrev μ-loop : tie.MeasureT-loop
 μ-loop lasts clock own good₀ k₀ at₀ good k at = length clock - k
@@ -28,8 +29,11 @@ mul-last-ok c = search (start-fits, arith)
 part-last-ok-end : tie.Need-part-last-ok-end Inv-loop μ-loop
 part-last-ok-end c = search piece-room
 
+cast-station : tie.Need-cast-station Inv-loop μ-loop
+cast-station c = search station-fits
+
 last-ok-requires : tie.Need-last-ok-requires Inv-loop μ-loop
-last-ok-requires c κs = (search piece-long, search needs)
+last-ok-requires c κs = search piece-long
 
 loop-again : tie.Need-loop-again Inv-loop μ-loop
 loop-again c = ⊎-elim (λ w. search (piece-fails, not-true)) (λ w. search (piece-holds, not-false)) (c .if1 .came)
@@ -45,6 +49,7 @@ each-last-ok-spec =
     μ-loop
     loop-holds
     add-end
+    cast-station
     mul-last-ok
     (λ c. search needs)
     (λ c. search needs)

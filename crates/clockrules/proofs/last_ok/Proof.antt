@@ -1,6 +1,5 @@
 -- `clockrules::last_ok` meets its contract: the own vector, then another station's.
 use Rattle.clockrules.proofs.Totals.{last-own, last-differs, last-below}
-use native.Mathlib.Omega.{arith}
 use borrow.Author.Needs.{needs}
 use Rattle.clockrules.proofs.last_ok.Statement.{statement}
 use Rattle.clockrules.proofs.last_ok.Tie as tie
@@ -9,7 +8,7 @@ returns : tie.Need-returns
 returns c = search last-own
 
 returns-2 : tie.Need-returns-2
-returns-2 c = last-differs _ _ _ _ (search needs) (λ z. omega arith)
+returns-2 c = search last-differs
 
 returns-3 : tie.Need-returns-3
 returns-3 c = search last-below
@@ -20,10 +19,8 @@ last-ok-spec =
     (tie.spec
     (λ c κs. search needs)
     returns
-    (λ c. search needs)
-    (λ c. search needs)
-    (λ c. search needs)
-    (λ c. search needs)
+    (λ c κs. search needs)
+    (λ c κs. search needs)
     returns-2
     (λ c κs. search needs)
     returns-3)

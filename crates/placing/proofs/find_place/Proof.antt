@@ -8,10 +8,10 @@ use Rattle.placing.proofs.find_place.Lts as lts
 use Rattle.placing.proofs.lower.Reads as lower-reads
 
 abbrev Inv-loop : tie.InvT-loop
-Inv-loop rows width count key at₀ more₀ at more = Finding rows key width count at more
+Inv-loop rows width key at₀ more₀ at more = Finding rows key width more₀ at more
 
 abbrev μ-loop : tie.MeasureT-loop
-μ-loop rows width count key at₀ more₀ at more = more
+μ-loop rows width key at₀ more₀ at more = more
 
 loop-holds : tie.Need-loop-holds Inv-loop μ-loop
 loop-holds c = search finding-start

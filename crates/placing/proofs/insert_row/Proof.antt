@@ -1,4 +1,4 @@
-use Rattle.placing.proofs.Placing.{place-low, key-room, vector-room, vector-fits, insertion}
+use Rattle.placing.proofs.Placing.{rows-fit, row-room, place-below, key-room, vector-room, vector-fits, insertion}
 use native.Mathlib.Omega.{arith}
 use borrow.Author.Needs.{needs}
 use Rattle.placing.proofs.insert_row.Statement.{statement}
@@ -8,15 +8,19 @@ use Rattle.placing.proofs.insert_row.Lts as lts
 use Rattle.moves.proofs.move_up.Reads as move-up-reads
 use Rattle.moves.proofs.put.Reads as put-reads
 use Rattle.placing.proofs.find_place.Reads as find-place-reads
+use Rattle.tags.proofs.wide.Reads as wide-reads
+
+wide-requires : tie.Need-wide-requires
+wide-requires c κs = search needs
 
 mul-end : tie.Need-mul-end
-mul-end c = search needs
+mul-end c = search rows-fit
 
 find-place-requires : tie.Need-find-place-requires
 find-place-requires c κs = search needs
 
 move-up-requires : tie.Need-move-up-requires
-move-up-requires c κs = (search place-low, search needs)
+move-up-requires c κs = (search place-below, search row-room)
 
 put-requires : tie.Need-put-requires
 put-requires c κs = search key-room
@@ -37,6 +41,7 @@ pub insert-row-spec : {M : Type 1} → statement M
 insert-row-spec =
     tie.close
     (tie.spec
+    wide-requires
     mul-end
     find-place-requires
     move-up-requires

@@ -11,10 +11,10 @@ use Rattle.rowrules.proofs.each_ok.Statement.{statement}
 use Rattle.rowrules.proofs.each_ok.Tie as tie
 
 abbrev Inv-loop : tie.InvT-loop
-Inv-loop rows width count kinds clock good₀ k₀ at₀ good k at = Passed (anywhere (rowKept kinds clock)) width count rows good k at
+Inv-loop rows width count kinds clock good₀ k₀ at₀ good k at = Passed (anywhere (rowKept kinds clock)) width (count .0) rows good k at
 
 abbrev μ-loop : tie.MeasureT-loop
-μ-loop rows width count kinds clock good₀ k₀ at₀ good k at = count - k
+μ-loop rows width count kinds clock good₀ k₀ at₀ good k at = count .0 - k
 
 loop-holds : tie.Need-loop-holds Inv-loop μ-loop
 loop-holds c = search pass-start
@@ -32,7 +32,7 @@ row-ok-requires : tie.Need-row-ok-requires Inv-loop μ-loop
 row-ok-requires c κs = search piece-long
 
 loop-again : tie.Need-loop-again Inv-loop μ-loop
-loop-again c = ⊎-elim (λ w. search (piece-fails, not-true)) (λ w. search (piece-holds, not-false)) (c .if1 .came)
+loop-again c = ⊎-elim (λ w. search (piece-fails, not-true)) (λ w. search (piece-holds, not-false)) (c .if2 .came)
 
 returns : tie.Need-returns Inv-loop μ-loop
 returns c = search each-done

@@ -9,10 +9,10 @@ use Rattle.rowrules.proofs.in_order.Statement.{statement}
 use Rattle.rowrules.proofs.in_order.Tie as tie
 
 abbrev Inv-loop : tie.InvT-loop
-Inv-loop rows width count kinds good₀ at₀ more₀ good at more = Chaining (follows kinds) width count rows good at more
+Inv-loop rows width kinds good₀ at₀ more₀ good at more = Chaining (follows kinds) width more₀ rows good at more
 
 abbrev μ-loop : tie.MeasureT-loop
-μ-loop rows width count kinds good₀ at₀ more₀ good at more = more
+μ-loop rows width kinds good₀ at₀ more₀ good at more = more
 
 loop-holds : tie.Need-loop-holds Inv-loop μ-loop
 loop-holds c = search chain-start

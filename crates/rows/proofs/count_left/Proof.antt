@@ -9,10 +9,10 @@ use Rattle.rows.proofs.count_left.Lts as lts
 use Rattle.rows.proofs.row_goes.Reads as row-goes-reads
 
 abbrev Inv-loop : tie.InvT-loop
-Inv-loop rows width count a v from₀ more₀ left₀ from more left = Counting (rowGoes a v) width count rows from more left
+Inv-loop rows width a v from₀ more₀ left₀ from more left = Counting (rowGoes a v) width more₀ rows from more left
 
 abbrev μ-loop : tie.MeasureT-loop
-μ-loop rows width count a v from₀ more₀ left₀ from more left = more
+μ-loop rows width a v from₀ more₀ left₀ from more left = more
 
 loop-holds : tie.Need-loop-holds Inv-loop μ-loop
 loop-holds c = search counting-start

@@ -11,10 +11,10 @@ use Rattle.moves.proofs.copy_down.Reads as copy-down-reads
 use Rattle.rows.proofs.row_goes.Reads as row-goes-reads
 
 abbrev Inv-loop : tie.InvT-loop
-Inv-loop rows₀ width count a v from₀ to₀ more₀ left₀ rows from to more left = Dropping (rowGoes a v) rows₀ width count rows from to more left
+Inv-loop rows₀ width a v from₀ to₀ more₀ left₀ rows from to more left = Dropping (rowGoes a v) rows₀ width more₀ rows from to more left
 
 abbrev μ-loop : tie.MeasureT-loop
-μ-loop rows₀ width count a v from₀ to₀ more₀ left₀ rows from to more left = more
+μ-loop rows₀ width a v from₀ to₀ more₀ left₀ rows from to more left = more
 
 loop-holds : tie.Need-loop-holds Inv-loop μ-loop
 loop-holds c = search dropping-start

@@ -25,6 +25,5 @@ lasts-ok-spec =
     (λ c. search needs)
     (λ c. search needs)
     (λ c. search needs)
-    (λ c κs. search needs)
     each-last-ok-requires
     returns)

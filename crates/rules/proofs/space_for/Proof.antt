@@ -1,5 +1,5 @@
 -- `rules::space_for` meets its contract: the area of at most 512 rows fits.
-use Rattle.rules.proofs.Heading.{area-fits, space-fits, space-most}
+use Rattle.rules.proofs.Heading.{area-fits, space-fits, space-most, space-is}
 use native.Mathlib.Omega.{arith}
 use borrow.Author.Needs.{needs}
 use Rattle.rules.proofs.space_for.Statement.{statement}
@@ -12,7 +12,7 @@ add-result-2 : tie.Need-add-result-2
 add-result-2 c = search (space-fits, arith)
 
 returns : tie.Need-returns
-returns c = (search needs, search space-most)
+returns c = (search space-is, search space-most)
 
 pub space-for-spec : {M : Type 1} → statement M
-space-for-spec = tie.close (tie.spec (λ c κs. search needs) (λ c. search needs) mul-result add-result-2 returns)
+space-for-spec = tie.close (tie.spec (λ c κs. search needs) (λ c κs. search needs) (λ c. search needs) mul-result add-result-2 returns)

@@ -12,15 +12,10 @@ part-all-zero-start : tie.Need-part-all-zero-start
 part-all-zero-start c = search (unused-start, arith)
 
 part-all-zero-end : tie.Need-part-all-zero-end
-part-all-zero-end c = let a = c .before .before .before .before .before .before .before .before .before in let w = c .before .before .before .before .before .before .wide in unused-end (a .args .s .now) (a .pre) (w .result) (w .ensures .0) (c .before .wide3 .result) (c .space-for2 .result) (c .before .wide3 .ensures .0) (c .space-for2 .ensures .0)
+part-all-zero-end c = search unused-end
 
 returns : tie.Need-returns
-returns c =
-    let two = c .before .before in
-    let one = two .before .before .before in
-    let size = one .before .before .before in
-    let a = size .before .before .before in
-    unused-told (a .args .s .now) (a .pre) (size .wide .result) (size .wide .ensures .0) (one .before .wide2 .result) (two .before .wide3 .result) (one .space-for .result) (two .space-for2 .result) (one .before .wide2 .ensures .0) (two .before .wide3 .ensures .0) (one .space-for .ensures .0) (two .space-for2 .ensures .0) (c .all-zero .result) (c .all-zero .ensures)
+returns c = search unused-told
 
 pub unused-ok-spec : {M : Type 1} → statement M
 unused-ok-spec =
@@ -30,9 +25,7 @@ unused-ok-spec =
     (λ c κs. search needs)
     (λ c. search needs)
     (λ c κs. search needs)
-    (λ c κs. search needs)
     (λ c. search needs)
-    (λ c κs. search needs)
     (λ c κs. search needs)
     (λ c. search needs)
     sub-all-zero

@@ -1,30 +1,43 @@
 use Rattle.scans.specs.Showing.{countShown}
-use Rattle.scans.proofs.Scanning.{Passing, passing-start, passing-room, first-room, counting-done, counting-shown, counting-other, next-fits}
+use Rattle.scans.proofs.Scanning.{Passing, passing-start, step-most, step-small, step-fits, behind-fits, counting-room, counting-next, counting-none, counting-done}
 use native.Mathlib.Omega.{arith}
 use borrow.Author.Needs.{needs}
 use Rattle.scans.proofs.count_shown.Statement.{statement}
 use Rattle.scans.proofs.count_shown.Tie as tie
 use Rattle.scans.proofs.count_shown.Reads as reads
 use Rattle.scans.proofs.count_shown.Lts as lts
-use Rattle.scans.proofs.shows_at.Reads as shows-at-reads
+use Rattle.scans.proofs.next_shown.Reads as next-shown-reads
+use Rattle.tags.proofs.wide.Reads as wide-reads
 
 abbrev Inv-loop : tie.InvT-loop
-Inv-loop rows width count object at₀ more₀ found₀ at more found = Passing rows width count (countShown object) at more found
+Inv-loop rows width object at₀ more₀ found₀ at more found = Passing rows width 0 more₀ (countShown object) at more found
 
 abbrev μ-loop : tie.MeasureT-loop
-μ-loop rows width count object at₀ more₀ found₀ at more found = more
+μ-loop rows width object at₀ more₀ found₀ at more found = more
 
 loop-holds : tie.Need-loop-holds Inv-loop μ-loop
 loop-holds c = search passing-start
 
-add-end : tie.Need-add-end Inv-loop μ-loop
-add-end c = search (next-fits, arith)
+next-shown-requires : tie.Need-next-shown-requires Inv-loop μ-loop
+next-shown-requires c κs = (search counting-room, search needs)
 
-shows-at-requires : tie.Need-shows-at-requires Inv-loop μ-loop
-shows-at-requires c κs = (search passing-room, search needs, search needs, search first-room)
+returns : tie.Need-returns Inv-loop μ-loop
+returns c = search counting-none
+
+add-step : tie.Need-add-step Inv-loop μ-loop
+add-step c = search (step-small, arith)
+
+wide-requires : tie.Need-wide-requires Inv-loop μ-loop
+wide-requires c κs = search needs
+
+mul-at : tie.Need-mul-at Inv-loop μ-loop
+mul-at c = search (step-fits, counting-room)
+
+add-at : tie.Need-add-at Inv-loop μ-loop
+add-at c = search (behind-fits, counting-room)
 
 sub-more : tie.Need-sub-more Inv-loop μ-loop
-sub-more c = search needs
+sub-more c = search step-most
 
 add-found : tie.Need-add-found Inv-loop μ-loop
 add-found c = search needs
@@ -33,16 +46,10 @@ loop-less : tie.Need-loop-less Inv-loop μ-loop
 loop-less c = search needs
 
 loop-again : tie.Need-loop-again Inv-loop μ-loop
-loop-again c = search counting-shown
+loop-again c = search counting-next
 
-loop-less-2 : tie.Need-loop-less-2 Inv-loop μ-loop
-loop-less-2 c = search needs
-
-loop-again-2 : tie.Need-loop-again-2 Inv-loop μ-loop
-loop-again-2 c = search counting-other
-
-returns : tie.Need-returns Inv-loop μ-loop
-returns c = search counting-done
+returns-2 : tie.Need-returns-2 Inv-loop μ-loop
+returns-2 c = search counting-done
 
 pub count-shown-spec : {M : Type 1} → statement M
 count-shown-spec =
@@ -51,12 +58,14 @@ count-shown-spec =
     Inv-loop
     μ-loop
     loop-holds
-    add-end
-    shows-at-requires
+    next-shown-requires
+    returns
+    add-step
+    wide-requires
+    mul-at
+    add-at
     sub-more
     add-found
     loop-less
     loop-again
-    loop-less-2
-    loop-again-2
-    returns)
+    returns-2)

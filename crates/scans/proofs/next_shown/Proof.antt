@@ -9,10 +9,10 @@ use Rattle.scans.proofs.next_shown.Lts as lts
 use Rattle.scans.proofs.shows_at.Reads as shows-at-reads
 
 abbrev Inv-loop : tie.InvT-loop
-Inv-loop rows width count object at₀ more₀ passed₀ at more passed = Passing rows width count (beforeShown object) at more passed
+Inv-loop rows width at object place₀ ahead₀ passed₀ place ahead passed = Passing rows width at ahead₀ (beforeShown object) place ahead passed
 
 abbrev μ-loop : tie.MeasureT-loop
-μ-loop rows width count object at₀ more₀ passed₀ at more passed = more
+μ-loop rows width at object place₀ ahead₀ passed₀ place ahead passed = ahead
 
 loop-holds : tie.Need-loop-holds Inv-loop μ-loop
 loop-holds c = search passing-start
@@ -23,11 +23,11 @@ shows-at-requires c κs = (search passing-room, search needs, search needs, sear
 returns : tie.Need-returns Inv-loop μ-loop
 returns c = search passing-found
 
-add-at : tie.Need-add-at Inv-loop μ-loop
-add-at c = search (next-fits, arith)
+add-place : tie.Need-add-place Inv-loop μ-loop
+add-place c = search (next-fits, arith)
 
-sub-more : tie.Need-sub-more Inv-loop μ-loop
-sub-more c = search needs
+sub-ahead : tie.Need-sub-ahead Inv-loop μ-loop
+sub-ahead c = search needs
 
 add-passed : tie.Need-add-passed Inv-loop μ-loop
 add-passed c = search needs
@@ -50,8 +50,8 @@ next-shown-spec =
     loop-holds
     shows-at-requires
     returns
-    add-at
-    sub-more
+    add-place
+    sub-ahead
     add-passed
     loop-less
     loop-again

@@ -8,10 +8,10 @@ use Rattle.scans.proofs.value_shown.Lts as lts
 use Rattle.scans.proofs.shows_value_at.Reads as shows-value-at-reads
 
 abbrev Inv-loop : tie.InvT-loop
-Inv-loop rows width count object value at₀ more₀ at more = Seeking rows width count object value at more
+Inv-loop rows width object value at₀ more₀ at more = Seeking rows width more₀ object value at more
 
 abbrev μ-loop : tie.MeasureT-loop
-μ-loop rows width count object value at₀ more₀ at more = more
+μ-loop rows width object value at₀ more₀ at more = more
 
 loop-holds : tie.Need-loop-holds Inv-loop μ-loop
 loop-holds c = search seeking-start

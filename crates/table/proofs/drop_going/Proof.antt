@@ -1,4 +1,4 @@
-use Rattle.table.proofs.Changing.{rows-fit, left-count, left-fits, dropped}
+use Rattle.table.proofs.Changing.{rows-fit, left-count, dropped}
 use native.Mathlib.Omega.{arith}
 use borrow.Author.Needs.{needs}
 use Rattle.table.proofs.drop_going.Statement.{statement}
@@ -34,9 +34,6 @@ part-drop-rows-end c = search needs
 drop-rows-requires : tie.Need-drop-rows-requires
 drop-rows-requires c κs = search needs
 
-cast-s : tie.Need-cast-s
-cast-s c = search left-fits
-
 slice-write-s : tie.Need-slice-write-s
 slice-write-s c = search needs
 
@@ -59,7 +56,6 @@ drop-going-spec =
     part-drop-rows-start
     part-drop-rows-end
     drop-rows-requires
-    cast-s
     slice-write-s
     same-length
     returns)

@@ -1,4 +1,4 @@
-use Rattle.table.proofs.Inserting.{insert-room, count-fits, put-in}
+use Rattle.table.proofs.Inserting.{insert-room, put-in}
 use native.Mathlib.Omega.{arith}
 use borrow.Author.Needs.{needs}
 use Rattle.table.proofs.put_row.Statement.{statement}
@@ -37,9 +37,6 @@ insert-row-requires c κs = (search insert-room, search needs, search needs)
 add-s : tie.Need-add-s
 add-s c = search needs
 
-cast-s : tie.Need-cast-s
-cast-s c = search needs
-
 slice-write-s : tie.Need-slice-write-s
 slice-write-s c = search needs
 
@@ -63,7 +60,6 @@ put-row-spec =
     part-insert-row-end
     insert-row-requires
     add-s
-    cast-s
     slice-write-s
     same-length
     returns)
