@@ -41,24 +41,15 @@ const DISABLE_WINS_FLAG: u32 = 6;
 
 const REMOVE_WINS_SET: u32 = 9;
 
-// Where the words of a row stand.
-const OBJECT_AT: usize = 0;
-
-const CODE_AT: usize = 3;
-
-const UNSETTLED_AT: usize = 4;
-
-const VECTOR_AT: usize = 7;
-
 // Whether a row is due: unsettled, and stable by Low.
 fn is_due(row: &[u32], low: &[u32]) -> bool
     requires { ⌜ length (now row) ≡ rowWidth (length (now low)) ⌝ }
     ensures { λ r. ⌜ r ≡ due (now (low .entry)) (rowOf (now (row .entry))) ⌝ }
 {
-    if row[UNSETTLED_AT] == 0 {
+    if row[layout::UNSETTLED_AT] == 0 {
         return false;
     }
-    tags::at_most(&row[VECTOR_AT..], low)
+    tags::at_most(&row[layout::VECTOR_AT..], low)
 }
 
 // Nothing beside a row.
@@ -78,9 +69,12 @@ fn compared(row: &[u32], other: &[u32]) -> Neighbour
     ensures { λ r. ⌜ r ≡ beside (rowOf (now (row .entry)) .operation) (rowOf (now (other .entry))) ⌝ }
 {
     Neighbour {
-        same: tags::same(&row[OBJECT_AT..CODE_AT], &other[OBJECT_AT..CODE_AT]),
-        adds: other[CODE_AT] == ADDS,
-        settled: other[UNSETTLED_AT] == 0,
+        same: tags::same(
+            &row[layout::OBJECT_AT..layout::CODE_AT],
+            &other[layout::OBJECT_AT..layout::CODE_AT],
+        ),
+        adds: other[layout::CODE_AT] == ADDS,
+        settled: other[layout::UNSETTLED_AT] == 0,
     }
 }
 
@@ -183,13 +177,13 @@ fn step_for(
     requires { ⌜ Held (now kinds) size (pieces (rowWidth size) left (now rows) ++ (take (rowWidth size) (drop at (now rows)) ∷ pieces (rowWidth size) more (drop (at + rowWidth size) (now rows)))) ⌝ }
     ensures { λ r. ⌜ r ≡ stepFor (kindAt (now (kinds .entry))) (now (low .entry)) (rowsFrom size left (now (rows .entry))) (rowOf (take (rowWidth size) (drop at (now (rows .entry))))) (rowsFrom size more (drop (at + rowWidth size) (now (rows .entry)))) ⌝ }
 {
-    let width = VECTOR_AT + size;
+    let width = layout::VECTOR_AT + size;
     let end = at + width;
     if is_due(&rows[at..end], low) {
         let kind = rowrules::kind_of(kinds, rows[at]);
         let above = before(rows, width, at, to, left);
         let below = behind(rows, width, at, more);
-        return decide(kind, rows[at + CODE_AT], above, below);
+        return decide(kind, rows[at + layout::CODE_AT], above, below);
     }
     Step::Keeps
 }
@@ -199,7 +193,8 @@ pub fn settle_row(rows: &mut [u32], at: usize, size: usize)
     requires { ⌜ (at + rowWidth size ≤ length (now rows)) × (size ≤ 16) × (rowWords size (rowOf (take (rowWidth size) (drop at (now rows)))) ≡ take (rowWidth size) (drop at (now rows))) ⌝ }
     ensures { λ _. ⌜ now (rows .exit) ≡ take at (now (rows .entry)) ++ (rowWords size (settledRow (rowOf (take (rowWidth size) (drop at (now (rows .entry)))) .operation)) ++ drop (at + rowWidth size) (now (rows .entry))) ⌝ }
 {
-    moves::clear(rows, at + UNSETTLED_AT, at + VECTOR_AT + size);
+    let start = at + layout::UNSETTLED_AT;
+    moves::clear(rows, start, at + layout::VECTOR_AT + size);
 }
 
 // Moves a run of words down to a place, with zeros where it left room.
@@ -243,7 +238,7 @@ pub fn pass_rows(
     requires { ⌜ (length (now low) ≡ size) × (size ≤ 16) × (count .0 * rowWidth size ≤ length (now rows)) × Held (now kinds) size (pieces (rowWidth size) (count .0) (now rows)) ⌝ }
     ensures { λ r. ⌜ (r .left .0 ≡ length (rowsThen (now (kinds .entry)) (now (low .entry)) (limit .0) (rowsFrom size (count .0) (now (rows .entry))))) × (r .taken .0 ≡ stepsThen (now (kinds .entry)) (now (low .entry)) (limit .0) (rowsFrom size (count .0) (now (rows .entry)))) × (now (rows .exit) ≡ padded (count .0 * rowWidth size) (flat (map (rowWords size) (rowsThen (now (kinds .entry)) (now (low .entry)) (limit .0) (rowsFrom size (count .0) (now (rows .entry)))))) ++ drop (count .0 * rowWidth size) (now (rows .entry))) ⌝ }
 {
-    let width = VECTOR_AT + size;
+    let width = layout::VECTOR_AT + size;
     let mut from = 0;
     let mut to = 0;
     let mut more = tags::wide(count.0);

@@ -7,14 +7,14 @@ use Rattle.settling.proofs.settle_row.Reads as reads
 use Rattle.settling.proofs.settle_row.Lts as lts
 use Rattle.moves.proofs.clear.Reads as clear-reads
 
+add-start : tie.Need-add-start
+add-start c = search needs
+
 add-clear : tie.Need-add-clear
 add-clear c = search needs
 
 add-clear-2 : tie.Need-add-clear-2
 add-clear-2 c = search needs
-
-add-clear-3 : tie.Need-add-clear-3
-add-clear-3 c = search needs
 
 clear-requires : tie.Need-clear-requires
 clear-requires c κs = search needs
@@ -27,4 +27,4 @@ returns c = search settled-here
 
 pub settle-row-spec : {M : Type 1} → statement M
 settle-row-spec =
-    tie.close (tie.spec add-clear add-clear-2 add-clear-3 clear-requires same-length returns)
+    tie.close (tie.spec add-start add-clear add-clear-2 clear-requires same-length returns)
