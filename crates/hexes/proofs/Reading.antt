@@ -47,20 +47,23 @@ module _ (s : List ℕ) (at count : ℕ) where
   unfolding justLf
   ended-past h = rw (drop-of-length-le s h) refl
 
-  pub ended-early : at < length s → (length s - 1 ≡ at → ⊥) → Malformed ≡ endedAt s at count
+  pub ended-early : at + 1 < length s → Malformed ≡ endedAt s at count
   unfolding justLf
-  ended-early h k =
+  ended-early h =
       let more : suc at < length s = omega arith in
-      rw (drop-cons s at 0 h, drop-cons s (suc at) 0 more) refl
+      rw (drop-cons s at 0 (omega arith), drop-cons s (suc at) 0 more) refl
 
-  last-left : at < length s → length s - 1 ≡ at → drop at s ≡ getD s (length s - 1) 0 ∷ []
-  last-left h k = let past : length s ≤ suc at = omega arith in drop-cons s at 0 h ∙ rw (drop-of-length-le s past, k) refl
+  last-left : at < length s → length s ≤ at + 1 → drop at s ≡ getD s (length s - 1) 0 ∷ []
+  last-left h k =
+      let past : length s ≤ suc at = omega arith in
+      let last : length s - 1 ≡ at = omega arith in
+      drop-cons s at 0 h ∙ rw (drop-of-length-le s past, last) refl
 
-  pub ended-lf : at < length s → length s - 1 ≡ at → getD s (length s - 1) 0 ≡ lf → Bytes count ≡ endedAt s at count
+  pub ended-lf : at < length s → length s ≤ at + 1 → getD s (length s - 1) 0 ≡ lf → Bytes count ≡ endedAt s at count
   unfolding justLf
   ended-lf h k e = rw (last-left h k, e) refl
 
-  pub ended-other : at < length s → length s - 1 ≡ at → (getD s (length s - 1) 0 ≡ lf → ⊥) → Malformed ≡ endedAt s at count
+  pub ended-other : at < length s → length s ≤ at + 1 → (getD s (length s - 1) 0 ≡ lf → ⊥) → Malformed ≡ endedAt s at count
   unfolding justLf
   ended-other h k e = rw (last-left h k, ne-eqb (getD s (length s - 1) 0) lf e) refl
 

@@ -19,6 +19,11 @@ const TEN: u8 = 10;
 
 const NO_DIGIT: u8 = BASE;
 
+// The letters among the digits.
+const FIRST_LETTER: u8 = b'a';
+
+const LAST_LETTER: u8 = b'f';
+
 // A byte has so many values, and so many characters in a line.
 const BYTE_VALUES: u32 = 256;
 
@@ -50,10 +55,10 @@ fn value_of(c: u8) -> u8
         NO_DIGIT
     } else if c <= b'9' {
         c - b'0'
-    } else if c < b'a' {
+    } else if c < FIRST_LETTER {
         NO_DIGIT
-    } else if c <= b'f' {
-        c - b'a' + TEN
+    } else if c <= LAST_LETTER {
+        c - FIRST_LETTER + TEN
     } else {
         NO_DIGIT
     }
@@ -146,7 +151,7 @@ fn digit_of(number: u32) -> u8
     if value < TEN {
         value + b'0'
     } else {
-        value - TEN + b'a'
+        value - TEN + FIRST_LETTER
     }
 }
 

@@ -2,19 +2,19 @@
 use Prim.Native.Nat.{ℕ, _≤_}
 use mathlib.Core.Path.{_≡_, refl, sym, ap, _∙_}
 use mathlib.Core.Bool.{Bool, true, false, not, _&&_}
-use mathlib.Core.List.{List, [], _∷_}
+use mathlib.Core.List.{List}
 use native.Mathlib.Omega.{arith}
 use borrow.Author.Tests.{leb-true}
 use lib.Dec.{leb}
-use lib.ListN.{getD, drop}
+use lib.ListN.{drop}
 use Rattle.hexes.specs.Choice.{pick}
-use Rattle.hexes.specs.Numbers.{numberFrom}
 use Rattle.shapes.specs.Reading.{entries, fieldsRead, hasShape, mostStations, padded, sizeOf, unread}
 use Rattle.shapes.specs.Shapes.{lengthOf, read}
 use Rattle.shapes.specs.declared.Fields.{Fields}
-use Rattle.lines.specs.Types.{clock, headOf, lastVector, lineRead, operation, row}
+use Rattle.lines.specs.Types.{clock, headOf, lastVector, lineRead, row}
 use Rattle.lines.specs.Named.{operationRead}
 use Rattle.lines.specs.declared.Operation.{Operation}
+use Rattle.lines.proofs.Named.{operation-stations-few}
 use Rattle.saved.specs.Named.{clockRead, lastRead, rowRead}
 use Rattle.saved.specs.declared.Clock.{Clock}
 use Rattle.saved.specs.declared.LastVector.{LastVector}
@@ -50,27 +50,7 @@ module _ (s : List ℕ) (stations : ℕ) where
   unfolding rowRead lineRead
   row-within r e h = fields-within s (headOf row) (row .typeByte) stations (sym (ap (λ (x : Row). x .ok) e) ∙ passed (r .ok) h)
 
--- field 1 of an operation is its byte 1
-second-field : (s : List ℕ) → getD (padded 6 (read (headOf operation) s)) 1 0 ≡ getD s 1 0
-unfolding padded read numberFrom
-second-field [] = refl
-second-field (a ∷ []) = refl
-second-field (a ∷ b ∷ s) = omega arith
-
-field-within : (s : List ℕ) (kind : ℕ) → fieldsRead kind (headOf operation) (getD s 1 0) s .ok ≡ true → getD (fieldsRead kind (headOf operation) (getD s 1 0) s .head) 1 0 ≤ 16
-unfolding fieldsRead
-field-within s kind = go (leb (getD s 1 0) mostStations) (hasShape kind (sizeOf (headOf operation) (getD s 1 0)) s) refl
-  where
-    whole : Fields
-    whole = record { ok = true; head = padded 6 (read (headOf operation) s); vector = padded 16 (entries (getD s 1 0) (drop (lengthOf (headOf operation)) s)) }
-
-    go : (a b : Bool) → leb (getD s 1 0) mostStations ≡ a → pick (a && b) whole unread .ok ≡ true → getD (pick (a && b) whole unread .head) 1 0 ≤ 16
-    go true true e h = let small : getD s 1 0 ≤ 16 = leb-true (getD s 1 0) mostStations e in omega (arith, second-field s)
-    go true false e h = absurd (let z : _≡_ {A = ℕ} 0 1 = cc in omega arith)
-    go false b e h = absurd (let z : _≡_ {A = ℕ} 0 1 = cc in omega arith)
-
 pub operation-within : (s : List ℕ) (r : Operation) → r ≡ operationRead s → not (r .ok) ≡ false → r .stations ≤ 16
-unfolding operationRead lineRead
 operation-within s r e h =
     let there : r .stations ≡ operationRead s .stations = ap (λ (x : Operation). x .stations) e in
-    omega (arith, there, field-within s (operation .typeByte) (sym (ap (λ (x : Operation). x .ok) e) ∙ passed (r .ok) h))
+    omega (arith, there, operation-stations-few s (sym (ap (λ (x : Operation). x .ok) e) ∙ passed (r .ok) h))

@@ -1,4 +1,7 @@
 // Reads lines, takes each apart by its type and prints it again from its fields, or prints `ff01`. Then prints one answer of each kind.
+ghost use mathlib.Core.Path.{_≡_};
+ghost use Rattle.lines_examples.specs.Feeding.{fed, taken};
+
 mod echo;
 
 use hexes::Decoded;
@@ -6,7 +9,7 @@ use libc::STDIN_FILENO;
 use libc::STDOUT_FILENO;
 use writing::Written;
 
-// The characters of the longest line. Of a longer one so many are kept, which get the same answer (law `kept-decoded` of `hexes`).
+// The characters of the longest line. Of a longer one so many are kept, which get the same answer (law `line-answered`).
 const LINE: usize = 2 * lines::LONGEST + 1;
 
 // What the answers at the end say: the refusal of a space that holds no table, a flag that is on, steps taken, and the total -7 in its two words.
@@ -82,7 +85,9 @@ fn reply(line: &[u8], stations: usize) -> usize {
 }
 
 // One byte of input: it joins the line, and ends it if it is LF.
-fn take(line: &mut [u8], kept: Kept, b: u8) -> Kept {
+fn take(line: &mut [u8], kept: Kept, b: u8) -> Kept
+    ensures { λ r. ⌜ (r .have, now (line .exit)) ≡ taken (now (line .entry)) (kept .have) b ⌝ }
+{
     let have = hexes::keep(line, kept.have, b);
     let stations = kept.stations;
     if b != hexes::LF {
@@ -99,7 +104,9 @@ fn take(line: &mut [u8], kept: Kept, b: u8) -> Kept {
 }
 
 // The bytes of one read.
-fn feed(line: &mut [u8], from: Kept, chunk: &[u8]) -> Kept {
+fn feed(line: &mut [u8], from: Kept, chunk: &[u8]) -> Kept
+    ensures { λ r. ⌜ (r .have, now (line .exit)) ≡ fed (now (line .entry)) (from .have) (now (chunk .entry)) ⌝ }
+{
     let mut have = from.have;
     let mut stations = from.stations;
     let mut i = 0;

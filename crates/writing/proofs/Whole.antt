@@ -56,7 +56,7 @@ module _ (space widths fields : List ℕ) (width : ℕ) (numbers : List ℕ) (W 
   unfolding lineWritten
   write-short h e k = rw (lt-leb (length (hexLine (lineBytes widths fields width numbers))) (length space) (omega (arith, length-hex-line (lineBytes widths fields width numbers), size-of-line))) refl
 
-  module _ (h : ℕ) (e : h ≡ lengthOf widths) (room : 2 * (h + width * length numbers) < length space) (at : ℕ) (first : List ℕ) (p : (at, first) ≡ putAt space 0 (written widths fields)) where
+  module _ (h : ℕ) (e : h ≡ lengthOf widths) (room : 2 * (h + width * length numbers) ≤ length space) (at : ℕ) (first : List ℕ) (p : (at, first) ≡ putAt space 0 (written widths fields)) where
     at-is : at ≡ placeAfter 0 (written widths fields)
     unfolding putAt
     at-is = ap (λ (q : ℕ × List ℕ). q .0) p
@@ -83,12 +83,12 @@ module _ (space widths fields : List ℕ) (width : ℕ) (numbers : List ℕ) (W 
       unfolding putAt lineBytes
       second-is = ap (λ (q : ℕ × List ℕ). q .1) q ∙ rw (at-is, first-is) (digits-at-append space 0 (written widths fields) head-fits (writtenEach width numbers))
 
-      pub write-end : length second ≡ length first → end < length second
-      write-end l = omega (arith, l, first-long, end-is, size-of-line)
+      pub write-end : 2 * (h + width * length numbers) < length space → length second ≡ length first → end < length second
+      write-end more l = omega (arith, l, first-long, end-is, size-of-line)
 
-      pub write-done : (size : ℕ) (third : List ℕ) → (size, third) ≡ endAt second end → (Characters size, third) ≡ lineWritten space (lineBytes widths fields width numbers)
+      pub write-done : 2 * (h + width * length numbers) < length space → (size : ℕ) (third : List ℕ) → (size, third) ≡ endAt second end → (Characters size, third) ≡ lineWritten space (lineBytes widths fields width numbers)
       unfolding lineWritten
-      write-done size third r =
+      write-done more size third r =
           let long : size ≡ length (hexLine (lineBytes widths fields width numbers)) = ap (λ (q : ℕ × List ℕ). q .0) r ∙ omega (arith, end-is, length-hex-line (lineBytes widths fields width numbers)) in
           let fits : 2 * length (lineBytes widths fields width numbers) < length space = omega (arith, size-of-line) in
           let whole : third ≡ hexLine (lineBytes widths fields width numbers) ++ drop (length (hexLine (lineBytes widths fields width numbers))) space = ap (λ (q : ℕ × List ℕ). q .1) r ∙ rw (second-is, end-is) (line-laid space (lineBytes widths fields width numbers) fits) in

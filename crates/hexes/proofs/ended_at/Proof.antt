@@ -11,13 +11,13 @@ shared-slice-read-if3 : tie.Need-shared-slice-read-if3
 shared-slice-read-if3 c = search needs
 
 returns : tie.Need-returns
-returns c = search ended-lf
+returns c = ended-lf (c .before .before .before .before .args .line .now) (c .before .before .before .before .args .at) (c .before .before .before .before .args .count) (search needs) (search needs) (search needs)
 
 returns-2 : tie.Need-returns-2
-returns-2 c = search ended-other
+returns-2 c = ended-other (c .before .before .before .before .args .line .now) (c .before .before .before .before .args .at) (c .before .before .before .before .args .count) (search needs) (search needs) (search needs)
 
 returns-3 : tie.Need-returns-3
-returns-3 c = search ended-early
+returns-3 c = ended-early (c .before .before .args .line .now) (c .before .before .args .at) (c .before .before .args .count) (search needs)
 
 returns-4 : tie.Need-returns-4
 returns-4 c = search ended-past

@@ -1,19 +1,19 @@
--- `lines_examples::feed` meets its contract. The loop keeps the line's length.
-use Prim.Native.Nat.{_≤_, _-_}
-use mathlib.Core.Path.{_≡_}
+-- `lines_examples::feed` meets its contract. The loop keeps `Feeding`: what is left of the piece is taken from where the line stands.
+use Prim.Native.Nat.{_-_}
 use lib.ListN.{length}
+use Rattle.lines_examples.proofs.Feeding.{Feeding, feeding-start, feeding-turn, feeding-done}
 use borrow.Author.Needs.{needs}
 use Rattle.lines_examples.proofs.feed.Statement.{statement}
 use Rattle.lines_examples.proofs.feed.Tie as tie
 
 abbrev Inv-loop : tie.InvT-loop
-Inv-loop line₀ chunk have₀ stations₀ i₀ line have stations i = (i ≤ length chunk) × (length line ≡ length line₀)
+Inv-loop line₀ chunk have₀ stations₀ i₀ line have stations i = Feeding line₀ have₀ chunk line have i
 
 abbrev μ-loop : tie.MeasureT-loop
 μ-loop line₀ chunk have₀ stations₀ i₀ line have stations i = length chunk - i
 
 loop-holds : tie.Need-loop-holds Inv-loop μ-loop
-loop-holds c = search needs
+loop-holds c = search feeding-start
 
 shared-slice-read-take : tie.Need-shared-slice-read-take Inv-loop μ-loop
 shared-slice-read-take c = search needs
@@ -28,13 +28,13 @@ loop-less : tie.Need-loop-less Inv-loop μ-loop
 loop-less c = search needs
 
 loop-again : tie.Need-loop-again Inv-loop μ-loop
-loop-again c = search needs
+loop-again c = search feeding-turn
 
 same-length : tie.Need-same-length Inv-loop μ-loop
 same-length c = search needs
 
 returns : tie.Need-returns Inv-loop μ-loop
-returns c = search needs
+returns c = search feeding-done
 
 pub feed-spec : {M : Type 1} → statement M
 feed-spec =

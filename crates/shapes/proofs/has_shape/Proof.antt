@@ -1,11 +1,12 @@
 -- `shapes::has_shape` meets its contract.
 use Rattle.shapes.proofs.Taking.{shape-length, shape-first, shape-empty}
+use native.Mathlib.Omega.{arith}
 use borrow.Author.Needs.{needs}
 use Rattle.shapes.proofs.has_shape.Statement.{statement}
 use Rattle.shapes.proofs.has_shape.Tie as tie
 
 returns : tie.Need-returns
-returns c = search shape-length
+returns c = shape-length (c .before .before .args .s .now) (c .before .before .args .kind) (c .before .before .args .size) (λ e. omega arith)
 
 byte-at-requires : tie.Need-byte-at-requires
 byte-at-requires c κs = search needs

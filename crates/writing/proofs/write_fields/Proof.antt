@@ -1,5 +1,6 @@
 -- `writing::write_fields` meets its contract.
 use Rattle.writing.proofs.Whole.{each-fits, size-fits, double-fits, write-short, write-room, write-end, write-done}
+use native.Mathlib.Nat.{le-of-lt}
 use borrow.Author.Needs.{needs}
 use Rattle.writing.proofs.write_fields.Statement.{statement}
 use Rattle.writing.proofs.write_fields.Tie as tie
@@ -17,22 +18,22 @@ mul-if1 : tie.Need-mul-if1
 mul-if1 c = search double-fits
 
 returns : tie.Need-returns
-returns c = search write-short
+returns c = search (write-short, le-of-lt)
 
 put-fields-requires : tie.Need-put-fields-requires
 put-fields-requires c κs = search needs
 
 put-each-requires : tie.Need-put-each-requires
-put-each-requires c κs = search write-room
+put-each-requires c κs = search (write-room, le-of-lt)
 
 put-lf-requires : tie.Need-put-lf-requires
-put-lf-requires c κs = search write-end
+put-lf-requires c κs = search (write-end, le-of-lt)
 
 same-length : tie.Need-same-length
 same-length c = search needs
 
 returns-2 : tie.Need-returns-2
-returns-2 c = search write-done
+returns-2 c = search (write-done, le-of-lt)
 
 pub write-fields-spec : {M : Type 1} → statement M
 write-fields-spec =
