@@ -92,6 +92,10 @@ module _ (s : List ℕ) (T : Laid s) where
   kinds-long : length (padded 32 (tableOf s .header .kinds)) ≡ 32
   kinds-long = length-padded 32 (tableOf s .header .kinds) (fit s T .few-kinds)
 
+  -- the kinds' words, zeros behind them
+  pub kinds-are : take 32 (drop 7 s) ≡ padded 32 (tableOf s .header .kinds)
+  kinds-are = ap (λ (l : List ℕ). take 32 (drop 7 l)) parts ∙ take-at (padded 32 (tableOf s .header .kinds)) _ 32 kinds-long
+
   totals-are-long : length (padded 64 (totalsWords (tableOf s .totals))) ≡ 64
   totals-are-long = length-padded 64 (totalsWords (tableOf s .totals)) (totals-long (tableOf s .totals) (fit s T .few-totals))
 

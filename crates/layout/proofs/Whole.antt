@@ -126,6 +126,16 @@ module _ (s : List ℕ) (T : Laid s) where
   unfolding tableOf rewritten wordsOf
   put-rows rs h = rw (front-is, map-back rowOf (rowWords (sizeIn s)) rs h, length-map rs rowOf) (sym (append-assoc (set (frontWords (tableOf s)) 5 (length rs)) (padded (capacityIn s * (7 + sizeIn s)) (flat rs)) (beyond s)))
 
+  -- as many rows as there were or fewer, with zeros behind them
+  pub put-fewer : (rs : List (List ℕ)) (x : List ℕ) (k : ℕ) → Each (λ (ws : List ℕ). rowWords (sizeIn s) (rowOf ws) ≡ ws) rs → Wide (7 + sizeIn s) rs → length rs ≤ countIn s
+      → x ≡ padded (countIn s * (7 + sizeIn s)) (flat rs) ++ drop (countIn s * (7 + sizeIn s)) (drop (rowsAt (sizeIn s)) s)
+      → k ≡ length rs
+      → set (take (rowsAt (sizeIn s)) s ++ x) 5 k ≡ rewritten s (withRows (tableOf s) (map rowOf rs))
+  put-fewer rs x k each wide few e c =
+      let long : length (flat rs) ≤ countIn s * (7 + sizeIn s) = rw (length-flat (7 + sizeIn s) rs wide) (mul-le-mul-right (7 + sizeIn s) few) in
+      let whole : x ≡ padded (capacityIn s * (7 + sizeIn s)) (flat rs) ++ beyond s = e ∙ rw after-rows (more-zeros (flat rs) (countIn s * (7 + sizeIn s)) (capacityIn s * (7 + sizeIn s)) (beyond s) long area) in
+      rw (whole, c) (put-rows rs each)
+
   -- a filter by what the rows mean, made on the words
   pub put-filtered : (f : Row → Bool) (x : List ℕ) (k : ℕ)
       → x ≡ padded (countIn s * (7 + sizeIn s)) (flat (those (λ (ws : List ℕ). f (rowOf ws)) (rowsIn s))) ++ drop (countIn s * (7 + sizeIn s)) (drop (rowsAt (sizeIn s)) s)
@@ -134,8 +144,6 @@ module _ (s : List ℕ) (T : Laid s) where
   unfolding tableOf
   put-filtered f x k e c =
       let rs = those (λ (ws : List ℕ). f (rowOf ws)) (rowsIn s) in
-      let wide : Wide (7 + sizeIn s) rs = wide-those (λ (ws : List ℕ). f (rowOf ws)) (7 + sizeIn s) (rowsIn s) rows-wide in
       let few : length rs ≤ countIn s = omega (arith, length-pieces (7 + sizeIn s) (countIn s) (drop (rowsAt (sizeIn s)) s), those-short (λ (ws : List ℕ). f (rowOf ws)) (rowsIn s)) in
-      let long : length (flat rs) ≤ countIn s * (7 + sizeIn s) = rw (length-flat (7 + sizeIn s) rs wide) (mul-le-mul-right (7 + sizeIn s) few) in
-      let whole : x ≡ padded (capacityIn s * (7 + sizeIn s)) (flat rs) ++ beyond s = e ∙ rw after-rows (more-zeros (flat rs) (countIn s * (7 + sizeIn s)) (capacityIn s * (7 + sizeIn s)) (beyond s) long area) in
-      rw (whole, c) (put-rows rs (each-those (λ (ws : List ℕ). rowWords (sizeIn s) (rowOf ws) ≡ ws) (λ (ws : List ℕ). f (rowOf ws)) (rowsIn s) each-spelt) ∙ rw (those-map rowOf f (rowsIn s)) refl)
+      put-fewer rs x k (each-those (λ (ws : List ℕ). rowWords (sizeIn s) (rowOf ws) ≡ ws) (λ (ws : List ℕ). f (rowOf ws)) (rowsIn s) each-spelt)
+      (wide-those (λ (ws : List ℕ). f (rowOf ws)) (7 + sizeIn s) (rowsIn s) rows-wide) few e c ∙ rw (those-map rowOf f (rowsIn s)) refl

@@ -509,6 +509,12 @@ step-length kind above below u =
     let c : length (cond (becomesSettled kind u (above ++ below)) (settledRow u ∷ []) []) ≤ 1 = cases (becomesSettled kind u (above ++ below)) (λ q. rw q (omega arith)) (λ q. rw q (omega arith)) in
     simp length-append (omega arith)
 
+-- a settling call adds no row
+pub settling-shortens : (table : Table) (limit : ℕ) → length (rowsSettled table limit) ≤ length (table .rows)
+unfolding rowsSettled
+settling-shortens table limit = steps-elim (λ (rows : List Row). length rows ≤ length (table .rows)) (kindIn (table .header)) (low table)
+    (λ above below u stable is. let l = step-length (kindIn (table .header) (u .object)) above below u in omega arith) limit (table .rows) (omega arith)
+
 -- "each call keeps the rules": one settling step, at an unsettled row.
 pub kept-by-step : (table : Table) (above below : List Row) (u : Operation) → isTable (withRows table (above ++ (unsettledRow u ∷ below))) ≡ true → isTable (withRows table (stepAt (kindIn (table .header) (u .object)) above u below)) ≡ true
 unfolding lastRule totalRule
