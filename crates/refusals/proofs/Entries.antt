@@ -1,0 +1,126 @@
+-- The entries of a vector against D and against the sender's last vector.
+use Prim.Native.Nat.{ℕ, zero, suc, _+_, _-_, _*_, _≤_, _<_}
+use mathlib.Core.Path.{_≡_, refl, sym, ap, subst, _∙_}
+use mathlib.Core.Bool.{Bool, true, false, cond}
+use mathlib.Core.List.{List, []}
+use native.Mathlib.Nat.{le-of-suc-le-suc, not-suc-le-zero, mul-le-mul, mul-le-mul-right, suc-mul}
+use native.Mathlib.Numerals.{add-one}
+use native.Mathlib.Omega.{arith}
+use borrow.Author.Tests.{eqb-true, eqb-false, eq-eqb, ne-eqb, le-leb, lt-leb}
+use mir.Val.{Fits}
+use mir.Syntax.{w64}
+use lib.Dec.{leb, ltb, eqb}
+use lib.ListN.{length, getD, take, drop, length-set, length-drop, List·getD-eq-default}
+use lib.Seq.{getD-set-other, drop-drop, length-take-le}
+use Rattle.meaning.specs.Order.{Vector, atMost, raised}
+use Rattle.meaning.proofs.Tests.{cases}
+use Rattle.meaning.proofs.Vectors.{raised-at}
+use Rattle.layout.specs.Words.{pieces}
+use Rattle.layout.proofs.Pieces.{length-pieces}
+use Rattle.tags.proofs.Pairs.{Passed, at-most-by-pairs, start, pair-fails, pair-holds, done}
+use Rattle.refusals.specs.Fields.{lastOf}
+
+-- one entry
+module _ (entry known : ℕ) (own : Bool) where
+  pub entry-known : entry ≤ known → true ≡ leb entry (cond own (suc known) known)
+  entry-known h = cases own (λ e. rw e (sym (le-leb entry (suc known) (omega arith)))) (λ e. rw e (sym (le-leb entry known h)))
+
+  module _ (h : known < entry) where
+    pub entry-next : own ≡ true → eqb (entry - known) 1 ≡ leb entry (cond own (suc known) known)
+    entry-next e = rw e (cases (eqb (entry - known) 1)
+        (λ q. let p = eqb-true (entry - known) 1 q in rw q (sym (le-leb entry (suc known) (omega arith))))
+        (λ q. let p = eqb-false (entry - known) 1 q in rw q (sym (lt-leb entry (suc known) (omega arith)))))
+
+    pub entry-ahead : own ≡ false → false ≡ leb entry (cond own (suc known) known)
+    entry-ahead e = rw e (sym (lt-leb entry known h))
+
+-- i entries are passed, and the sender's place is known
+pub record Timely (v clock : Vector) (sender at : ℕ) (good : Bool) (i : ℕ) : Type 0 where
+  pub place : at ≡ sender
+  pub sized : length v ≡ length clock
+  pub within : i ≤ length v
+  pub passed : Passed atMost v (raised clock sender) good i
+
+pub time-start : (v clock : Vector) (sender at : ℕ) → at ≡ sender → length v ≡ length clock → Timely v clock sender at true 0
+time-start v clock sender at e l = record {
+  place = e;
+  sized = l;
+  within = omega arith;
+  passed = start atMost v (raised clock sender) (l ∙ sym (length-set clock sender (suc (getD clock sender 0))));
+}
+
+raised-entry : (clock : Vector) (sender i : ℕ) → i < length clock → getD (raised clock sender) i 0 ≡ cond (eqb i sender) (suc (getD clock i 0)) (getD clock i 0)
+raised-entry clock sender i h = cases (eqb i sender)
+    (λ e. let q = eqb-true i sender e in rw e (subst (λ (s : ℕ). getD (raised clock s) i 0 ≡ suc (getD clock i 0)) q (raised-at clock i h)))
+    (λ e. rw e (getD-set-other clock sender i (suc (getD clock sender 0)) 0 (eqb-false i sender e)))
+
+module _ (v clock : Vector) (sender at : ℕ) (good : Bool) (i : ℕ) (T : Timely v clock sender at good i) where
+  module _ (h : i < length v) (r : Bool) (e : r ≡ leb (getD v i 0) (cond (eqb i at) (suc (getD clock i 0)) (getD clock i 0))) where
+    entry-is : leb (getD v i 0) (getD (raised clock sender) i 0) ≡ r
+    entry-is = ap (leb (getD v i 0)) (raised-entry clock sender i (omega (arith, T .sized)) ∙ rw (T .place) refl) ∙ sym e
+
+    pub time-fails : (noted : Bool) → noted ≡ false → r ≡ false → Timely v clock sender at noted (i + 1)
+    time-fails noted n f = record { place = T .place; sized = T .sized; within = omega arith; passed = pair-fails atMost leb at-most-by-pairs v (raised clock sender) good i (T .passed) h noted n (entry-is ∙ f) }
+
+    pub time-holds : (noted : Bool) → noted ≡ good → r ≡ true → Timely v clock sender at noted (i + 1)
+    time-holds noted n f = record { place = T .place; sized = T .sized; within = omega arith; passed = pair-holds atMost leb at-most-by-pairs v (raised clock sender) good i (T .passed) h noted n (entry-is ∙ f) }
+
+  pub time-done : length v ≤ i → good ≡ atMost v (raised clock sender)
+  time-done h = done atMost leb at-most-by-pairs v (raised clock sender) good i (T .passed) h
+
+-- the part of the lent words that is a station's last vector
+piece-at : (w count : ℕ) (s : List ℕ) (k : ℕ) → k < count → getD (pieces w count s) k [] ≡ take w (drop (k * w) s)
+piece-at w zero s k h = absurd (not-suc-le-zero h)
+piece-at w (suc count) s zero h = let z : 0 * w ≡ 0 = omega arith in rw z refl
+piece-at w (suc count) s (suc k) h =
+    let q : suc k * w ≡ w + k * w = omega (arith, suc-mul k w) in
+    piece-at w count (drop w s) k (le-of-suc-le-suc h) ∙ ap (take w) (drop-drop (k * w) w s) ∙ rw q refl
+
+module _ (v : Vector) (lasts : List ℕ) (sender at : ℕ) (e : at ≡ sender) where
+  pub last-of-none : length v ≤ at → true ≡ atMost (lastOf (length v) lasts sender) v
+  last-of-none h =
+      let l : length (pieces (length v) (length v) lasts) ≤ sender = omega (arith, e, length-pieces (length v) (length v) lasts) in
+      rw (List·getD-eq-default (pieces (length v) (length v) lasts) [] l) refl
+
+  module _ (few : length v ≤ 16) (h : at < length v) where
+    place-small : at * length v ≤ 256
+    place-small = let l : at ≤ 16 = omega arith in mul-le-mul l few
+
+    pub last-place-fits : Fits w64 (at * length v)
+    last-place-fits = omega (arith, place-small)
+
+    pub last-place-scaled : Fits w64 (at * length v * 4)
+    last-place-scaled = omega (arith, place-small)
+
+    pub last-end-fits : Fits w64 (at * length v + length v)
+    last-end-fits = omega (arith, place-small)
+
+    module _ (room : length v * length v ≤ length lasts) where
+      pub last-end : at * length v + length v ≤ length lasts
+      last-end = omega (arith, suc-mul at (length v), mul-le-mul-right (length v) h)
+
+      pub last-long : length (take (at * length v + length v - at * length v) (drop (at * length v) lasts)) ≡ length v
+      last-long =
+          let q : at * length v + length v - at * length v ≡ length v = omega arith in
+          rw q (length-take-le (length v) (drop (at * length v) lasts) (simp length-drop (omega (arith, last-end))))
+
+      pub last-there : (r : Bool) → r ≡ atMost (take (at * length v + length v - at * length v) (drop (at * length v) lasts)) v → r ≡ atMost (lastOf (length v) lasts sender) v
+      last-there r f =
+          let q : at * length v + length v - at * length v ≡ length v = omega arith in
+          let there : take (at * length v + length v - at * length v) (drop (at * length v) lasts) ≡ lastOf (length v) lasts sender = rw q (sym (piece-at (length v) (length v) lasts at h) ∙ ap (lastOf (length v) lasts) e) in
+          f ∙ ap (λ (u : Vector). atMost u v) there
+
+-- the vector is as long as the group is large
+pub rising-room : (entries size words : ℕ) → entries ≡ size → size * size ≤ words → entries * entries ≤ words
+rising-room entries size words e h = rw e h
+
+-- an object's kind
+module _ (kinds : List ℕ) (place object : ℕ) (e : place ≡ object) where
+  pub kind-there : getD kinds place 0 ≡ getD kinds object 0
+  kind-there = ap (λ (n : ℕ). getD kinds n 0) e
+
+  pub declared-there : ltb place (length kinds) ≡ ltb object (length kinds)
+  declared-there = ap (λ (n : ℕ). ltb n (length kinds)) e
+
+  pub kind-nowhere : length kinds ≤ place → 0 ≡ getD kinds object 0
+  kind-nowhere h = sym (List·getD-eq-default kinds 0 h) ∙ kind-there
