@@ -1,18 +1,20 @@
--- What each kind allows, a law for each way out of the code.
+-- What an object's kind allows, a law for each way out of the code.
 use Prim.Native.Nat.{ℕ, _+_, _≤_, _<_}
-use mathlib.Core.Path.{_≡_, refl, sym, subst, _∙_}
+use mathlib.Core.Path.{_≡_, refl, sym, ap, subst, _∙_}
 use mathlib.Core.Bool.{Bool, true, false, not}
 use mathlib.Core.List.{List, [], _∷_}
 use native.Mathlib.Omega.{arith}
-use borrow.Author.Tests.{eqb-true, eqb-false, eq-eqb, ne-eqb, lt-ltb, le-leb, lt-leb}
+use borrow.Author.Tests.{eqb-true, eqb-false, ne-eqb, lt-ltb, le-leb, lt-leb}
 use mir.Val.{Fits}
 use mir.Syntax.{w32}
-use lib.Dec.{leb, eqb}
+use lib.Dec.{leb, ltb, eqb}
 use lib.ListN.{length, getD, List·getD-eq-default}
 use Rattle.meaning.specs.Tests.{between}
 use Rattle.meaning.specs.Operations.{isCounter, isFlag, codesOf, codeAllowed, valueAllowed, allowed}
 use Rattle.meaning.specs.Questions.{fits}
+use Rattle.meaning.specs.Refusals.{wellAsked}
 use Rattle.meaning.proofs.Tests.{cases}
+use Rattle.allowing.specs.Asking.{askedFrom}
 
 -- counters and flags
 module _ (kind : ℕ) where
@@ -142,3 +144,33 @@ module _ (question kind : ℕ) where
       pub fits-others : counts ≡ false → (flags : Bool) → flags ≡ isFlag kind → not flags ≡ fits question kind
       unfolding fits
       fits-others c flags ef = rw (ne-eqb question 1 n, ne-eqb question 2 m, sym ec ∙ c, ef) refl
+
+-- a question and its value
+module _ (question value : ℕ) where
+  pub asked-none : question < 1 → false ≡ wellAsked (askedFrom 0 question value)
+  unfolding wellAsked between
+  asked-none h = rw (lt-leb 1 question h) refl
+
+  pub asked-unknown : 5 < question → false ≡ wellAsked (askedFrom 0 question value)
+  unfolding wellAsked between
+  asked-unknown h = rw (le-leb 1 question (omega arith), lt-leb question 5 h) refl
+
+  module _ (low : 1 ≤ question) (high : question ≤ 5) where
+    pub asked-holds : question ≡ 5 → Fits w32 value → true ≡ wellAsked (askedFrom 0 question value)
+    unfolding wellAsked between
+    asked-holds q k = rw (q, lt-ltb value 4294967296 (omega (arith, k))) refl
+
+    pub asked-plain : (question ≡ 5 → ⊥) → eqb value 0 ≡ wellAsked (askedFrom 0 question value)
+    unfolding wellAsked between
+    asked-plain n = rw (le-leb 1 question low, le-leb question 5 high, ne-eqb question 5 n) refl
+
+-- an object's kind
+module _ (kinds : List ℕ) (place object : ℕ) (e : place ≡ object) where
+  pub kind-there : getD kinds place 0 ≡ getD kinds object 0
+  kind-there = ap (λ (n : ℕ). getD kinds n 0) e
+
+  pub declared-there : ltb place (length kinds) ≡ ltb object (length kinds)
+  declared-there = ap (λ (n : ℕ). ltb n (length kinds)) e
+
+  pub kind-nowhere : length kinds ≤ place → 0 ≡ getD kinds object 0
+  kind-nowhere h = sym (List·getD-eq-default kinds 0 h) ∙ kind-there

@@ -1,7 +1,13 @@
-// What a kind of object allows: its codes, its values, and the questions that fit it.
+// What an object's kind allows: its codes, its values, and the questions that fit it.
 ghost use mathlib.Core.Path.{_≡_};
+ghost use lib.Dec.{ltb};
+ghost use lib.ListN.{length, getD};
 ghost use Rattle.meaning.specs.Operations.{allowed, codeAllowed, isCounter, isFlag, valueAllowed};
 ghost use Rattle.meaning.specs.Questions.{fits};
+ghost use Rattle.meaning.specs.Refusals.{wellAsked};
+ghost use Rattle.allowing.specs.Asking.{askedFrom};
+
+const NO_KIND: u32 = 0;
 
 const GROW_COUNTER: u32 = 1;
 
@@ -32,6 +38,26 @@ const NO_VALUE: u32 = 0;
 const ASKS_TOTAL: u32 = 1;
 
 const ASKS_FLAG: u32 = 2;
+
+const ASKS_HOLDS: u32 = 5;
+
+// The kind of an object, or none where it is not declared.
+pub fn kind_of(kinds: &[u32], object: u32) -> u32
+    ensures { λ r. ⌜ r ≡ getD (now (kinds .entry)) object 0 ⌝ }
+{
+    let at = tags::wide(object);
+    if at < kinds.len() {
+        return kinds[at];
+    }
+    NO_KIND
+}
+
+// Whether an object is declared.
+pub fn is_declared(kinds: &[u32], object: u32) -> bool
+    ensures { λ r. ⌜ r ≡ ltb object (length (now (kinds .entry))) ⌝ }
+{
+    tags::wide(object) < kinds.len()
+}
 
 // Whether objects of this kind are counters, whose values are amounts.
 fn is_counter(kind: u32) -> bool
@@ -124,4 +150,20 @@ pub fn is_fitted(question: u32, kind: u32) -> bool
         return false;
     }
     !is_flag(kind)
+}
+
+// Whether a question is known, with a value only where it takes one.
+pub fn well_asked(question: u32, value: u32) -> bool
+    ensures { λ r. ⌜ r ≡ wellAsked (askedFrom 0 question value) ⌝ }
+{
+    if question < ASKS_TOTAL {
+        return false;
+    }
+    if ASKS_HOLDS < question {
+        return false;
+    }
+    if question == ASKS_HOLDS {
+        return true;
+    }
+    value == NO_VALUE
 }

@@ -1,24 +1,27 @@
 -- Each chain of refusals: what the tests say, one after the other, is the first refusal that is given.
-use Prim.Native.Nat.{ℕ, suc, _+_, _*_, _≤_, _<_}
-use mathlib.Core.Path.{_≡_, refl, sym, ap, subst, _∙_}
-use mathlib.Core.Bool.{Bool, true, false, not, _&&_, _||_, cond}
+use Prim.Native.Nat.{ℕ, suc, _*_, _≤_, _<_}
+use mathlib.Core.Path.{_≡_, refl, sym, _∙_}
+use mathlib.Core.Bool.{Bool, true, false, _&&_}
 use mathlib.Core.List.{List, [], _∷_}
 use native.Mathlib.Omega.{arith}
-use borrow.Author.Tests.{eqb-true, eqb-false, eq-eqb, ne-eqb, lt-ltb, le-ltb, le-leb, lt-leb}
+use borrow.Author.Tests.{eq-eqb, lt-ltb, le-ltb}
 use mir.Val.{Fits}
 use mir.Syntax.{w32}
 use lib.Dec.{leb, ltb, eqb}
 use lib.ListN.{length, getD}
-use Rattle.meaning.specs.Tests.{every, between}
+use Rattle.meaning.specs.Tests.{every, between, allHold}
 use Rattle.meaning.specs.Order.{Vector, entryLimit, atMost, raised}
 use Rattle.meaning.specs.Operations.{numberOf, allowed}
-use Rattle.meaning.specs.Table.{inRange, kindIn}
-use Rattle.meaning.specs.Questions.{fits}
+use Rattle.meaning.specs.Table.{headerRules, inRange, kindIn}
+use Rattle.meaning.specs.Table as table
+use Rattle.meaning.specs.Questions.{Asked, fits}
 use Rattle.meaning.specs.Refusals.{firstOf, wellShaped, declared, operationAllowed, inTime, frameRefusals, issueRefusals, wellAsked, askedRefusals, openingRefusals}
-use Rattle.meaning.proofs.Tests.{cases}
+use Rattle.meaning.proofs.Tests.{and-left, and-right, between-out}
 use Rattle.layout.specs.Words.{pieces}
 use Rattle.layout.specs.Layout.{spaceFor}
-use Rattle.refusals.specs.Fields.{headerFrom, headerOfKinds, frameFrom, localFrom, askedFrom, isStranger, lastOf}
+use Rattle.allowing.specs.Asking.{askedFrom}
+use Rattle.timing.specs.Lasts.{lastOf}
+use Rattle.refusals.specs.Fields.{headerFrom, headerOfKinds, frameFrom, localFrom, isStranger}
 use Rattle.refusals.specs.declared.Header.{Header}
 use Rattle.refusals.specs.declared.Sent.{Sent}
 
@@ -29,6 +32,10 @@ module _ (sender size own : ℕ) where
 
   pub stranger-own : sender < size → eqb sender own ≡ isStranger sender size own
   stranger-own h = rw (lt-ltb sender size h) refl
+
+-- the vector is as long as the group is large
+pub rising-room : (entries size words : ℕ) → entries ≡ size → size * size ≤ words → entries * entries ≤ words
+rising-room entries size words e h = rw e h
 
 -- 1: lent words are entries of 32 bits
 every-entry : (v : Vector) → ((i : ℕ) → Fits w32 (getD v i 0)) → every (λ (entry : ℕ). ltb entry entryLimit) v ≡ true
@@ -61,30 +68,27 @@ module _ (h : Header) (kinds : List ℕ) (clock : Vector) (lasts : List ℕ) (f 
       unfolding frameRefusals declared operationAllowed kindIn
       frame-not-allowed t = rw (shaped h kinds f v sized known, sym ea ∙ fa, sym eb ∙ tb, allows ∙ t) refl
 
-      module _ (tc : c ≡ true) (number last : ℕ) (en : number ≡ getD v (f .sender .0) 0) (el : last ≡ getD clock (f .sender .0) 0) where
-        earlier : leb (getD v (f .sender .0) 0) (getD clock (f .sender .0) 0) ≡ leb number last
-        earlier = rw (en, el) refl
-
-        pub frame-known : leb number last ≡ true → 5 ≡ refusal
+      module _ (tc : c ≡ true) (d : Bool) (ed : d ≡ leb (getD v (f .sender .0) 0) (getD clock (f .sender .0) 0)) where
+        pub frame-known : d ≡ true → 5 ≡ refusal
         unfolding frameRefusals declared operationAllowed kindIn numberOf
-        frame-known t = rw (shaped h kinds f v sized known, sym ea ∙ fa, sym eb ∙ tb, allows ∙ tc, earlier ∙ t) refl
+        frame-known t = rw (shaped h kinds f v sized known, sym ea ∙ fa, sym eb ∙ tb, allows ∙ tc, sym ed ∙ t) refl
 
-        module _ (td : leb number last ≡ false) (e : Bool) (ee : e ≡ atMost v (raised clock (f .sender .0))) where
-          pub frame-early : not e ≡ true → 6 ≡ refusal
+        module _ (fd : d ≡ false) (e : Bool) (ee : e ≡ atMost v (raised clock (f .sender .0))) where
+          pub frame-early : e ≡ false → 6 ≡ refusal
           unfolding frameRefusals declared operationAllowed kindIn numberOf inTime
-          frame-early t = rw (shaped h kinds f v sized known, sym ea ∙ fa, sym eb ∙ tb, allows ∙ tc, earlier ∙ td, sym ee, t) refl
+          frame-early t = rw (shaped h kinds f v sized known, sym ea ∙ fa, sym eb ∙ tb, allows ∙ tc, sym ed ∙ fd, sym ee ∙ t) refl
 
-          module _ (te : not e ≡ false) (g : Bool) (eg : g ≡ atMost (lastOf (length v) lasts (f .sender .0)) v) where
+          module _ (te : e ≡ true) (g : Bool) (eg : g ≡ atMost (lastOf (length v) lasts (f .sender .0)) v) where
             rising : atMost (getD (pieces (h .size) (h .size) lasts) (f .sender .0) []) v ≡ g
             rising = rw (sym sized) (sym eg)
 
             pub frame-falling : g ≡ false → 7 ≡ refusal
             unfolding frameRefusals declared operationAllowed kindIn numberOf inTime
-            frame-falling t = rw (shaped h kinds f v sized known, sym ea ∙ fa, sym eb ∙ tb, allows ∙ tc, earlier ∙ td, sym ee, te, rising ∙ t) refl
+            frame-falling t = rw (shaped h kinds f v sized known, sym ea ∙ fa, sym eb ∙ tb, allows ∙ tc, sym ed ∙ fd, sym ee ∙ te, rising ∙ t) refl
 
             pub frame-passes : g ≡ true → 0 ≡ refusal
             unfolding frameRefusals declared operationAllowed kindIn numberOf inTime
-            frame-passes t = rw (shaped h kinds f v sized known, sym ea ∙ fa, sym eb ∙ tb, allows ∙ tc, earlier ∙ td, sym ee, te, rising ∙ t) refl
+            frame-passes t = rw (shaped h kinds f v sized known, sym ea ∙ fa, sym eb ∙ tb, allows ∙ tc, sym ed ∙ fd, sym ee ∙ te, rising ∙ t) refl
 
 -- the chain of a local operation
 module _ (h : Header) (kinds : List ℕ) (clock : Vector) (object code value : ℕ) (b : Bool) (eb : b ≡ ltb object (length kinds)) where
@@ -103,34 +107,16 @@ module _ (h : Header) (kinds : List ℕ) (clock : Vector) (object code value : �
     unfolding issueRefusals declared kindIn
     issue-not-allowed t = rw (sym eb ∙ tb, permits ∙ t) refl
 
-    module _ (tc : c ≡ true) (number : ℕ) (en : number ≡ getD clock (h .own .0) 0) where
-      pub issue-last : eqb number 4294967295 ≡ true → 9 ≡ issued
+    module _ (tc : c ≡ true) (d : Bool) (ed : d ≡ eqb (suc (getD clock (h .own .0) 0)) entryLimit) where
+      pub issue-last : d ≡ true → 9 ≡ issued
       unfolding issueRefusals declared kindIn
-      issue-last t = let q = eqb-true number 4294967295 t in rw (sym eb ∙ tb, permits ∙ tc, ← en, eq-eqb (suc number) entryLimit (omega arith)) refl
+      issue-last t = rw (sym eb ∙ tb, permits ∙ tc, sym ed ∙ t) refl
 
-      pub issue-passes : eqb number 4294967295 ≡ false → 0 ≡ issued
+      pub issue-passes : d ≡ false → 0 ≡ issued
       unfolding issueRefusals declared kindIn
-      issue-passes t = let q = eqb-false number 4294967295 t in rw (sym eb ∙ tb, permits ∙ tc, ← en, ne-eqb (suc number) entryLimit (λ z. q (omega arith))) refl
+      issue-passes t = rw (sym eb ∙ tb, permits ∙ tc, sym ed ∙ t) refl
 
 -- the chain of a question
-module _ (question value : ℕ) where
-  pub asked-none : question < 1 → false ≡ wellAsked (askedFrom 0 question value)
-  unfolding wellAsked between
-  asked-none h = rw (lt-leb 1 question h) refl
-
-  pub asked-unknown : 5 < question → false ≡ wellAsked (askedFrom 0 question value)
-  unfolding wellAsked between
-  asked-unknown h = rw (le-leb 1 question (omega arith), lt-leb question 5 h) refl
-
-  module _ (low : 1 ≤ question) (high : question ≤ 5) where
-    pub asked-holds : question ≡ 5 → Fits w32 value → true ≡ wellAsked (askedFrom 0 question value)
-    unfolding wellAsked between
-    asked-holds q k = rw (q, lt-ltb value 4294967296 (omega (arith, k))) refl
-
-    pub asked-plain : (question ≡ 5 → ⊥) → eqb value 0 ≡ wellAsked (askedFrom 0 question value)
-    unfolding wellAsked between
-    asked-plain n = rw (le-leb 1 question low, le-leb question 5 high, ne-eqb question 5 n) refl
-
 module _ (kinds : List ℕ) (object question value : ℕ) (a : Bool) (ea : a ≡ wellAsked (askedFrom 0 question value)) where
   abbrev replied : ℕ
   replied = firstOf (askedRefusals (headerOfKinds kinds) (askedFrom object question value))
@@ -161,9 +147,43 @@ module _ (kinds : List ℕ) (object question value : ℕ) (a : Bool) (ea : a ≡
       question-passes t = rw (well ∙ ta, sym eb ∙ tb, suits ∙ t) refl
 
 -- only the kinds of a header matter to a question
-pub asked-by-kinds : (h : Header) (kinds : List ℕ) (object question value : ℕ) → askedRefusals (headerFrom h kinds) (askedFrom object question value) ≡ askedRefusals (headerOfKinds kinds) (askedFrom object question value)
+pub asked-by-kinds : (header : table.Header) (asked : Asked) → askedRefusals header asked ≡ askedRefusals (headerOfKinds (header .kinds)) asked
 unfolding askedRefusals declared kindIn
-asked-by-kinds h kinds object question value = refl
+asked-by-kinds header asked = refl
+
+-- what the ranges of an opening bound
+module _ (h : Header) (kinds : List ℕ) (r : Bool) (e : r ≡ inRange (headerFrom h kinds)) (t : r ≡ true) where
+  rules : allHold (headerRules (headerFrom h kinds)) ≡ true
+  unfolding inRange
+  rules = sym e ∙ t
+
+  abbrev size-kept : Bool
+  size-kept = between 1 16 (h .size)
+
+  abbrev own-kept : Bool
+  own-kept = ltb (h .own .0) (h .size)
+
+  abbrev count-kept : Bool
+  count-kept = between 1 32 (length kinds)
+
+  abbrev kinds-kept : Bool
+  kinds-kept = every (between 1 9) kinds
+
+  abbrev capacity-kept : Bool
+  capacity-kept = between 1 512 (h .capacity .0)
+
+  pub opening-few : (size : ℕ) → size ≡ h .size → size ≤ 16
+  unfolding headerRules
+  opening-few size q = rw q (between-out 1 16 (h .size) (and-left size-kept (own-kept && (count-kept && (kinds-kept && (capacity-kept && true)))) rules) .1)
+
+  pub opening-small : (capacity : ℕ) → capacity ≡ h .capacity .0 → capacity ≤ 512
+  unfolding headerRules
+  opening-small capacity q =
+      let past-size = and-right size-kept (own-kept && (count-kept && (kinds-kept && (capacity-kept && true)))) rules in
+      let past-own = and-right own-kept (count-kept && (kinds-kept && (capacity-kept && true))) past-size in
+      let past-count = and-right count-kept (kinds-kept && (capacity-kept && true)) past-own in
+      let past-kinds = and-right kinds-kept (capacity-kept && true) past-count in
+      rw q (between-out 1 512 (h .capacity .0) (and-left capacity-kept true past-kinds) .1)
 
 -- the refusal of an opening
 module _ (h : Header) (kinds : List ℕ) (space : ℕ) (a : Bool) (ea : a ≡ inRange (headerFrom h kinds)) where

@@ -1,17 +1,13 @@
-// The refusals of frames, local operations, questions and openings, in the order in which they are tried. They ask the header, D and L alone: an archive can
-// be tried with these, without any rows. Refusals 14, 8, 10, 11 and what 1 says of lines are tried where there are lines and rows.
+// The refusals of frames, local operations, questions and openings, in the order in which they are tried. They ask the header, D and L alone, so that frames
+// can be tried without any rows. Refusals 14, 8, 10, 11, and 1 of a line or of a frame's N, are tried where there are lines and rows.
 ghost use mathlib.Core.Path.{_≡_};
-ghost use Prim.Native.Nat.{_*_, _≤_, suc};
-ghost use mathlib.Core.Bool.{cond};
-ghost use lib.Dec.{leb, ltb};
-ghost use lib.ListN.{length, getD};
-ghost use Rattle.meaning.specs.Tests.{between, every};
-ghost use Rattle.meaning.specs.Order.{atMost, raised};
-ghost use Rattle.meaning.specs.Table.{greatestKind, inRange};
-ghost use Rattle.meaning.specs.Refusals.{askedRefusals, firstOf, frameRefusals, issueRefusals, openingRefusals, wellAsked};
+ghost use Prim.Native.Nat.{_*_, _≤_};
+ghost use lib.ListN.{length};
+ghost use Rattle.meaning.specs.Refusals.{askedRefusals, firstOf, frameRefusals, issueRefusals, openingRefusals};
 ghost use Rattle.layout.specs.Words.{pieces};
 ghost use Rattle.layout.specs.Layout.{spaceFor};
-ghost use Rattle.refusals.specs.Fields.{askedFrom, frameFrom, headerFrom, headerOfKinds, isStranger, lastOf, localFrom};
+ghost use Rattle.allowing.specs.Asking.{askedFrom};
+ghost use Rattle.refusals.specs.Fields.{frameFrom, headerFrom, headerOfKinds, isStranger, localFrom};
 use tags::RowCount;
 use tags::Station;
 
@@ -39,116 +35,31 @@ pub const STRANGER: u32 = 2;
 
 pub const UNDECLARED: u32 = 3;
 
-pub const NOT_ALLOWED: u32 = 4;
+pub const FORBIDDEN: u32 = 4;
 
-pub const KNOWN_ALREADY: u32 = 5;
+pub const KNOWN: u32 = 5;
 
-pub const TOO_EARLY: u32 = 6;
+pub const EARLY: u32 = 6;
 
 pub const FALLING: u32 = 7;
 
-pub const NO_NUMBER_LEFT: u32 = 9;
+pub const LAST: u32 = 9;
 
 pub const UNFITTED: u32 = 12;
 
-pub const NOT_OPENED: u32 = 13;
-
-const NO_KIND: u32 = 0;
-
-const NO_VALUE: u32 = 0;
-
-const GREATEST_NUMBER: u32 = 4294967295;
-
-const ASKS_TOTAL: u32 = 1;
-
-const ASKS_HOLDS: u32 = 5;
-
-const GREATEST_SIZE: usize = 16;
-
-const GREATEST_CAPACITY: usize = 512;
-
-const MOST_OBJECTS: usize = 32;
-
-const GREATEST_KIND: u8 = 9;
-
-// Where the clock of a table stands, and a row's words before its vector.
-const CLOCK_AT: usize = 103;
-
-const KEY: usize = 7;
-
-// The kind of an object, or none where it is not declared.
-fn kind_of(kinds: &[u32], object: u32) -> u32
-    ensures { λ r. ⌜ r ≡ getD (now (kinds .entry)) object 0 ⌝ }
-{
-    let at = tags::wide(object);
-    if at < kinds.len() {
-        return kinds[at];
-    }
-    NO_KIND
-}
-
-// Whether an object is declared.
-fn is_declared(kinds: &[u32], object: u32) -> bool
-    ensures { λ r. ⌜ r ≡ ltb object (length (now (kinds .entry))) ⌝ }
-{
-    tags::wide(object) < kinds.len()
-}
+pub const UNOPENED: u32 = 13;
 
 // Whether a sender is no other station of the group: outside of it, or the own one.
-fn is_stranger(sender: u32, size: u32, own: u32) -> bool
-    ensures { λ r. ⌜ r ≡ isStranger sender size own ⌝ }
+fn is_stranger(sender: Station, size: u32, own: Station) -> bool
+    ensures { λ r. ⌜ r ≡ isStranger (sender .0) size (own .0) ⌝ }
 {
-    if size <= sender {
+    if size <= sender.0 {
         return true;
     }
-    sender == own
+    sender.0 == own.0
 }
 
-// Whether an entry of a vector is at most D's, or at most one more where it is the sender's own.
-fn entry_in_time(entry: u32, known: u32, own: bool) -> bool
-    ensures { λ r. ⌜ r ≡ leb entry (cond own (suc known) known) ⌝ }
-{
-    if entry <= known {
-        return true;
-    }
-    if own {
-        return entry - known == 1;
-    }
-    false
-}
-
-// Whether no entry comes too early; it notes a fault and never leaves early, so that every frame takes the same way.
-fn in_time(v: &[u32], clock: &[u32], sender: u32) -> bool
-    requires { ⌜ length (now v) ≡ length (now clock) ⌝ }
-    ensures { λ r. ⌜ r ≡ atMost (now (v .entry)) (raised (now (clock .entry)) sender) ⌝ }
-{
-    let at = tags::wide(sender);
-    let mut good = true;
-    let mut i = 0;
-    while i < v.len() {
-        if !entry_in_time(v[i], clock[i], i == at) {
-            good = false;
-        }
-        i += 1;
-    }
-    good
-}
-
-// Whether no entry lies below the sender's last vector; a sender outside of the group has none.
-fn keeps_rising(lasts: &[u32], v: &[u32], sender: u32) -> bool
-    requires { ⌜ (length (now v) * length (now v) ≤ length (now lasts)) × (length (now v) ≤ 16) ⌝ }
-    ensures { λ r. ⌜ r ≡ atMost (lastOf (length (now (v .entry))) (now (lasts .entry)) sender) (now (v .entry)) ⌝ }
-{
-    let at = tags::wide(sender);
-    if v.len() <= at {
-        return true;
-    }
-    let start = at * v.len();
-    let end = start + v.len();
-    tags::at_most(&lasts[start..end], v)
-}
-
-// The refusal of a frame, 2 to 7: each test is made on any frame, so that their order is the order of these lines alone.
+// The refusal of a frame, 2 to 7. Every test is made on every frame, so that the order in which they are tried is that of the returns alone.
 pub fn frame_refusal(
     h: Header,
     kinds: &[u32],
@@ -162,28 +73,28 @@ pub fn frame_refusal(
 {
     let sender = f.sender;
     let own = h.own;
-    let stranger = is_stranger(sender.0, h.size, own.0);
-    let declared = is_declared(kinds, f.object);
-    let allowed = allowing::is_allowed(kind_of(kinds, f.object), f.code, f.value);
-    let known = tags::number_at(v, sender).0 <= tags::number_at(clock, sender).0;
-    let early = !in_time(v, clock, sender.0);
-    let rising = keeps_rising(lasts, v, sender.0);
+    let stranger = is_stranger(sender, h.size, own);
+    let undeclared = !allowing::is_declared(kinds, f.object);
+    let forbidden = !allowing::is_allowed(allowing::kind_of(kinds, f.object), f.code, f.value);
+    let known = timing::is_known(v, clock, sender);
+    let early = !timing::in_time(v, clock, sender);
+    let falling = !timing::keeps_rising(lasts, v, sender);
     if stranger {
         return STRANGER;
     }
-    if !declared {
+    if undeclared {
         return UNDECLARED;
     }
-    if !allowed {
-        return NOT_ALLOWED;
+    if forbidden {
+        return FORBIDDEN;
     }
     if known {
-        return KNOWN_ALREADY;
+        return KNOWN;
     }
     if early {
-        return TOO_EARLY;
+        return EARLY;
     }
-    if !rising {
+    if falling {
         return FALLING;
     }
     NONE
@@ -201,48 +112,32 @@ pub fn issue_refusal(
     ensures { λ r. ⌜ r ≡ firstOf (issueRefusals (headerFrom h (now (kinds .entry))) (now (clock .entry)) (localFrom object code value)) ⌝ }
 {
     let own = h.own;
-    let declared = is_declared(kinds, object);
-    let allowed = allowing::is_allowed(kind_of(kinds, object), code, value);
-    let last = tags::number_at(clock, own).0 == GREATEST_NUMBER;
+    let declared = allowing::is_declared(kinds, object);
+    let allowed = allowing::is_allowed(allowing::kind_of(kinds, object), code, value);
+    let last = timing::is_last(clock, own);
     if !declared {
         return UNDECLARED;
     }
     if !allowed {
-        return NOT_ALLOWED;
+        return FORBIDDEN;
     }
     if last {
-        return NO_NUMBER_LEFT;
+        return LAST;
     }
     NONE
-}
-
-// Whether a question is known, with a value only where it takes one.
-fn well_asked(question: u32, value: u32) -> bool
-    ensures { λ r. ⌜ r ≡ wellAsked (askedFrom 0 question value) ⌝ }
-{
-    if question < ASKS_TOTAL {
-        return false;
-    }
-    if ASKS_HOLDS < question {
-        return false;
-    }
-    if question == ASKS_HOLDS {
-        return true;
-    }
-    value == NO_VALUE
 }
 
 // The refusal of a question, 1, 3 and 12.
 pub fn question_refusal(kinds: &[u32], object: u32, question: u32, value: u32) -> u32
     ensures { λ r. ⌜ r ≡ firstOf (askedRefusals (headerOfKinds (now (kinds .entry))) (askedFrom object question value)) ⌝ }
 {
-    let well = well_asked(question, value);
-    let declared = is_declared(kinds, object);
-    let fitted = allowing::is_fitted(question, kind_of(kinds, object));
-    if !well {
+    let well_asked = allowing::well_asked(question, value);
+    let object_declared = allowing::is_declared(kinds, object);
+    let fitted = allowing::is_fitted(question, allowing::kind_of(kinds, object));
+    if !well_asked {
         return MISASKED;
     }
-    if !declared {
+    if !object_declared {
         return UNDECLARED;
     }
     if !fitted {
@@ -251,80 +146,17 @@ pub fn question_refusal(kinds: &[u32], object: u32, question: u32, value: u32) -
     NONE
 }
 
-// Whether a number is from 1 to the greatest.
-fn in_range(number: usize, greatest: usize) -> bool
-    ensures { λ r. ⌜ r ≡ between 1 greatest number ⌝ }
-{
-    if number < 1 {
-        return false;
-    }
-    number <= greatest
-}
-
-// Whether a kind is one of the nine.
-fn is_kind(kind: u8) -> bool
-    ensures { λ r. ⌜ r ≡ between 1 greatestKind kind ⌝ }
-{
-    if kind < 1 {
-        return false;
-    }
-    kind <= GREATEST_KIND
-}
-
-// Whether every kind is one of the nine.
-fn kinds_known(kinds: &[u8]) -> bool
-    ensures { λ r. ⌜ r ≡ every (between 1 greatestKind) (now (kinds .entry)) ⌝ }
-{
-    let mut good = true;
-    let mut i = 0;
-    while i < kinds.len() {
-        if !is_kind(kinds[i]) {
-            good = false;
-        }
-        i += 1;
-    }
-    good
-}
-
-// Whether the numbers of an opening are in range.
-fn header_ok(h: Header, kinds: &[u8]) -> bool
-    ensures { λ r. ⌜ r ≡ inRange (headerFrom h (now (kinds .entry))) ⌝ }
-{
-    let own = h.own;
-    let capacity = h.capacity;
-    if !in_range(tags::wide(h.size), GREATEST_SIZE) {
-        return false;
-    }
-    if h.size <= own.0 {
-        return false;
-    }
-    if !in_range(kinds.len(), MOST_OBJECTS) {
-        return false;
-    }
-    if !kinds_known(kinds) {
-        return false;
-    }
-    in_range(tags::wide(capacity.0), GREATEST_CAPACITY)
-}
-
-// How many words a table needs.
-fn space_for(size: usize, capacity: usize) -> usize
-    requires { ⌜ (size ≤ 16) × (capacity ≤ 512) ⌝ }
-    ensures { λ r. ⌜ r ≡ spaceFor size capacity ⌝ }
-{
-    CLOCK_AT + size + size * size + capacity * (KEY + size)
-}
-
 // The refusal of an opening, 13: for any numbers, so the space is computed only where they are in range.
 pub fn opening_refusal(h: Header, kinds: &[u8], space: usize) -> u32
     ensures { λ r. ⌜ r ≡ firstOf (openingRefusals space (spaceFor (h .size) (h .capacity .0)) (headerFrom h (now (kinds .entry)))) ⌝ }
 {
+    let own = h.own;
     let capacity = h.capacity;
-    if !header_ok(h, kinds) {
-        return NOT_OPENED;
+    if !ranges::header_ok(h.size, own, capacity, kinds) {
+        return UNOPENED;
     }
-    if space < space_for(tags::wide(h.size), tags::wide(capacity.0)) {
-        return NOT_OPENED;
+    if space < ranges::space_for(tags::wide(h.size), tags::wide(capacity.0)) {
+        return UNOPENED;
     }
     NONE
 }

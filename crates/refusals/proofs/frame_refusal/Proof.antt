@@ -1,7 +1,6 @@
 -- `refusals::frame_refusal` meets its contract: each way out is one refusal of the chain.
 use borrow.Author.Tests.{not-true, not-false}
-use Rattle.refusals.proofs.Entries.{rising-room}
-use Rattle.refusals.proofs.Chains.{frame-stranger, frame-undeclared, frame-not-allowed, frame-known, frame-early, frame-falling, frame-passes}
+use Rattle.refusals.proofs.Chains.{rising-room, frame-stranger, frame-undeclared, frame-not-allowed, frame-known, frame-early, frame-falling, frame-passes}
 use borrow.Author.Needs.{needs}
 use Rattle.refusals.proofs.frame_refusal.Statement.{statement}
 use Rattle.refusals.proofs.frame_refusal.Tie as tie
@@ -22,7 +21,7 @@ returns-4 : tie.Need-returns-4
 returns-4 c = search (frame-known, not-false)
 
 returns-5 : tie.Need-returns-5
-returns-5 c = search (frame-early, not-false)
+returns-5 c = search (frame-early, not-true, not-false)
 
 returns-6 : tie.Need-returns-6
 returns-6 c = search (frame-falling, not-true, not-false)
@@ -34,7 +33,6 @@ pub frame-refusal-spec : {M : Type 1} → statement M
 frame-refusal-spec =
     tie.close
     (tie.spec
-    (λ c κs. search needs)
     (λ c κs. search needs)
     (λ c κs. search needs)
     (λ c κs. search needs)

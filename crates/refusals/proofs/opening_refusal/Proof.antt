@@ -1,7 +1,6 @@
 -- `refusals::opening_refusal` meets its contract: the ranges, then the space.
 use borrow.Author.Tests.{not-true, not-false}
-use Rattle.refusals.proofs.Ranges.{opening-few, opening-small}
-use Rattle.refusals.proofs.Chains.{opening-range, opening-space, opening-passes}
+use Rattle.refusals.proofs.Chains.{opening-few, opening-small, opening-range, opening-space, opening-passes}
 use borrow.Author.Needs.{needs}
 use Rattle.refusals.proofs.opening_refusal.Statement.{statement}
 use Rattle.refusals.proofs.opening_refusal.Tie as tie
