@@ -15,7 +15,7 @@ use Rattle.meaning.specs.Operations.{Operation, numberOf, valueLimit}
 use Rattle.meaning.specs.Arrival.{rowsAfter}
 use Rattle.meaning.specs.Table.{Header, Table, kindIn}
 use Rattle.meaning.specs.Questions.{Asked, Source, asksTotal, asksList, asksHolds, fits}
-use Rattle.meaning.specs.Refusals.{firstOf, Frame, Local, wellShaped, declared, operationAllowed, inTime, frameRefusals, roomFor, arrivalRefusals, refusalOfFrame, issuedBy, localRefusals, refusalOfLocal, settlingRefusals, refusalOfSettling, wellAsked, listTooLong, questionRefusals}
+use Rattle.meaning.specs.Refusals.{firstOf, Frame, Local, wellShaped, declared, operationAllowed, inTime, frameRefusals, roomFor, arrivalRefusals, refusalOfFrame, issuedBy, issueRefusals, localRefusals, refusalOfLocal, settlingRefusals, refusalOfSettling, wellAsked, listTooLong, askedRefusals, questionRefusals}
 use Rattle.meaning.proofs.Tests.{cases, and-left, and-right, and-fails, and-rest, or-left-fails, or-right-fails, between-out, between-in}
 use Rattle.meaning.proofs.Vectors.{at-most-at, at-most-by, raised-at}
 use Rattle.meaning.proofs.Refusals.{exactly-when}
@@ -123,7 +123,7 @@ pub record LocalAccepted (table : Table) (local : Local) : Type 0 where
 
 -- "A local operation passes ... 3, 4, 9, 8": what an accepted one is known to be.
 pub local-accepted : (table : Table) (local : Local) → refusalOfLocal table local ≡ 0 → LocalAccepted table local
-unfolding refusalOfLocal localRefusals declared roomFor issuedBy
+unfolding refusalOfLocal localRefusals issueRefusals operationAllowed declared roomFor issuedBy
 local-accepted table local e =
     let u = issuedBy table local in
     let header = table .header in
@@ -137,7 +137,7 @@ local-accepted table local e =
     }
 
 local-passes : (table : Table) (local : Local) → LocalAccepted table local → refusalOfLocal table local ≡ 0
-unfolding refusalOfLocal localRefusals declared roomFor issuedBy
+unfolding refusalOfLocal localRefusals issueRefusals operationAllowed declared roomFor issuedBy
 local-passes table local a =
     let u = issuedBy table local in
     let header = table .header in
@@ -163,7 +163,7 @@ pub record QuestionTaken (header : Header) (source : Source) (room : ℕ) (asked
   pub list-fits : asked .question ≡ asksList → length (source .listAt (asked .object)) ≤ room
 
 question-taken : (header : Header) (source : Source) (room : ℕ) (asked : Asked) → firstOf (questionRefusals header source room asked) ≡ 0 → QuestionTaken header source room asked
-unfolding questionRefusals wellAsked declared listTooLong
+unfolding questionRefusals askedRefusals wellAsked declared listTooLong
 question-taken header source room asked e =
     let question = asked .question in
     let value = asked .value in
@@ -183,7 +183,7 @@ question-taken header source room asked e =
     }
 
 question-passes : (header : Header) (source : Source) (room : ℕ) (asked : Asked) → QuestionTaken header source room asked → firstOf (questionRefusals header source room asked) ≡ 0
-unfolding questionRefusals wellAsked declared listTooLong
+unfolding questionRefusals askedRefusals wellAsked declared listTooLong
 question-passes header source room asked a =
     let question = asked .question in
     let value = asked .value in

@@ -17,7 +17,7 @@ use Rattle.meaning.specs.Rows.{Row, settledRow, unsettledCount, lowerRow
 use Rattle.meaning.specs.Arrival.{getsRow}
 use Rattle.meaning.specs.Table.{Header, Table, kindIn, stable, inRange, isTable, totalRule, storable}
 use Rattle.meaning.specs.Questions.{Asked, byDefinition}
-use Rattle.meaning.specs.Refusals.{declared, questionRefusals}
+use Rattle.meaning.specs.Refusals.{declared, askedRefusals, questionRefusals}
 use Rattle.meaning.specs.Calls.{askOf, ask, meant}
 use Rattle.meaning.specs.History.{Event, Station, reached}
 use Rattle.meaning.proofs.Tests.{cases, clash, iff, and-left, and-right, and-both, fails-not, or-cases, any-in, any-out, any-none, any-cong, not-holds}
@@ -210,7 +210,7 @@ module _ (header other : Header) (events happened : List Event) (range : inRange
 
   -- only the kinds of a header matter to a question
   by-kinds : (accepted : List Operation) (room : ℕ) (asked : Asked) → meant header accepted room asked ≡ meant other accepted room asked
-  unfolding meant askOf questionRefusals declared kindIn byDefinition
+  unfolding meant askOf questionRefusals askedRefusals declared kindIn byDefinition
   by-kinds accepted room asked = rw objects
 
   -- "stations that accepted the same operations agree": every question gets the same reply.

@@ -10,7 +10,7 @@ use borrow.Author.Tests.{eqb-true, ltb-true}
 use Rattle.meaning.specs.Operations.{isCounter, isFlag}
 use Rattle.meaning.specs.Table.{Header, kindIn}
 use Rattle.meaning.specs.Questions.{Asked, total, flag, list, count, holds, Source, fits, answerFrom}
-use Rattle.meaning.specs.Refusals.{wellAsked, declared, listTooLong, questionRefusals}
+use Rattle.meaning.specs.Refusals.{wellAsked, declared, listTooLong, askedRefusals, questionRefusals}
 use Rattle.meaning.specs.Calls.{Reply, replyOf, askOf}
 use Rattle.meaning.proofs.Tests.{cases, and-left, not-holds, or-cases, or-left-fails}
 
@@ -70,7 +70,7 @@ unfolding replyOf
 refused-alike n source other asked p q = rw (p, q)
 
 pub replies-alike : (header : Header) (source other : Source) (room : ℕ) (asked : Asked) → (asked .object < length (header .kinds) → Alike (kindIn header (asked .object)) source other (asked .object)) → askOf header source room asked ≡ askOf header other room asked
-unfolding askOf questionRefusals declared
+unfolding askOf questionRefusals askedRefusals declared
 replies-alike header source other room asked a = cases (wellAsked asked)
     (λ p. cases (ltb (asked .object) (length (header .kinds)))
     (λ q. cases (fits (asked .question) (kindIn header (asked .object)))

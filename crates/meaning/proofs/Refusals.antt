@@ -13,7 +13,7 @@ use Rattle.meaning.specs.Tests.{any}
 use Rattle.meaning.specs.Operations.{Operation}
 use Rattle.meaning.specs.Table.{Header, Table, opened}
 use Rattle.meaning.specs.Questions.{Asked, Source, byRows, answerFrom}
-use Rattle.meaning.specs.Refusals.{Refusal, _when_, firstOf, Frame, Local, frameRefusals, arrivalRefusals, refusalOfFrame, issuedBy, localRefusals, refusalOfLocal, settlingRefusals, refusalOfSettling, questionRefusals, openingRefusals}
+use Rattle.meaning.specs.Refusals.{Refusal, _when_, firstOf, Frame, Local, frameRefusals, arrivalRefusals, refusalOfFrame, issuedBy, issueRefusals, localRefusals, refusalOfLocal, settlingRefusals, refusalOfSettling, askedRefusals, questionRefusals, openingRefusals}
 use Rattle.meaning.specs.Calls.{Outcome, Settled, Reply, Opening, withRows, afterArrival, outcome, receive, issue, rowsSettled, steps, settle, replyOf, askOf, ask, openTable}
 use Rattle.meaning.specs.History.{Event, receives, issues, settles, Station, afterOutcome, afterSettling, after}
 use Rattle.meaning.proofs.Tests.{cases, clash, and-left, and-right, or-left, or-right, not-holds}
@@ -198,7 +198,7 @@ replies source asked refusal = record {
 
 -- "Bad input gets exactly the refusal number that document 01 gives, in 01's order and only then".
 pub exactly-when : Exact
-unfolding arrivalRefusals frameRefusals localRefusals questionRefusals settlingRefusals openingRefusals refusalOfFrame refusalOfLocal refusalOfSettling receive issue settle openTable askOf ask
+unfolding arrivalRefusals frameRefusals issueRefusals localRefusals askedRefusals questionRefusals settlingRefusals openingRefusals refusalOfFrame refusalOfLocal refusalOfSettling receive issue settle openTable askOf ask
 exactly-when = record {
   frame = λ table frame. record { in-order = refl; exactly = exact (arrivalRefusals table frame) refl };
   local = λ table local. record { in-order = refl; exactly = exact (localRefusals table local) refl };

@@ -10,7 +10,7 @@ use Rattle.meaning.specs.Arrival.{concerns, rowBefore, takenBy, getsRow,
 use Rattle.meaning.specs.Settling.{stableBy, due, addBeside, removeBeside, becomesSettled, droppedWith, leftBy, stepAt}
 use Rattle.meaning.specs.Table.{kindIn, low, stable, headerRules, inRange, zeros, opened, clockRule, lastRule, lastsRule, totalBound, isNegative, totalRule, totalsRule, storable, settledOnly, tagRule, rowRule, tableRules, isTable}
 use Rattle.meaning.specs.Questions.{fits, byRows, byDefinition, answerFrom}
-use Rattle.meaning.specs.Refusals.{wellShaped, declared, operationAllowed, inTime, frameRefusals, roomFor, arrivalRefusals, refusalOfFrame, issuedBy, localRefusals, refusalOfLocal, settlingRefusals, refusalOfSettling, wellAsked, listTooLong, questionRefusals, openingRefusals}
+use Rattle.meaning.specs.Refusals.{wellShaped, declared, operationAllowed, inTime, frameRefusals, roomFor, arrivalRefusals, refusalOfFrame, issuedBy, issueRefusals, localRefusals, refusalOfLocal, settlingRefusals, refusalOfSettling, wellAsked, listTooLong, askedRefusals, questionRefusals, openingRefusals}
 use Rattle.meaning.specs.Calls.{afterArrival, outcome, receive, issue, rowsSettled, steps, settle, replyOf, askOf, ask, meant, openTable}
 use Rattle.meaning.specs.History.{afterOutcome, afterSettling, after, afterAll, reached}
 
@@ -52,7 +52,7 @@ questionWords = 0
 
 unfoldable pub refusalWords : ℕ
 unfolding wellShaped declared operationAllowed inTime frameRefusals roomFor arrivalRefusals refusalOfFrame issuedBy
-    localRefusals refusalOfLocal settlingRefusals refusalOfSettling wellAsked listTooLong questionRefusals openingRefusals
+    issueRefusals localRefusals refusalOfLocal settlingRefusals refusalOfSettling wellAsked listTooLong askedRefusals questionRefusals openingRefusals
 refusalWords = 0
 
 unfoldable pub callWords : ℕ

@@ -93,15 +93,18 @@ issuedBy table local = record {
   vector = raised (table .clock) (table .header .own);
 }
 
--- "A local operation passes 14, 1, 3, 4, 9, 8, 10": 14 and 1 come before this, 10 after it. 9: "own number is 4,294,967,295 already".
+-- 3, 4 and 9 of a local operation: these ask only the header and D. 9: "own number is 4,294,967,295 already".
+unfoldable pub issueRefusals : Header → Vector → Local → List Refusal
+issueRefusals header clock local =
+    (3 when not (declared header (local .object)))
+    ∷ (4 when not (allowed (kindIn header (local .object)) (local .code) (local .value)))
+    ∷ (9 when eqb (suc (getD clock (header .own) 0)) entryLimit)
+    ∷ []
+
+-- "A local operation passes 14, 1, 3, 4, 9, 8, 10": 14 and 1 come before this, 10 after it.
 unfoldable pub localRefusals : Table → Local → List Refusal
 localRefusals table local =
-    let u = issuedBy table local in
-    (3 when not (declared (table .header) (u .object)))
-    ∷ (4 when not (operationAllowed (table .header) u))
-    ∷ (9 when eqb (suc (getD (table .clock) (table .header .own) 0)) entryLimit)
-    ∷ (8 when not (roomFor table u))
-    ∷ []
+    issueRefusals (table .header) (table .clock) local ++ ((8 when not (roomFor table (issuedBy table local))) ∷ [])
 
 -- The number that a local operation gets, 0 where it is accepted.
 unfoldable pub refusalOfLocal : Table → Local → ℕ
@@ -129,14 +132,17 @@ wellAsked asked =
 unfoldable pub listTooLong : Source → ℕ → Asked → Bool
 listTooLong source room asked = eqb (asked .question) asksList && ltb room (length (source .listAt (asked .object)))
 
--- "A question passes 14, 1, 3, 12, 11": 14 and a line's shape come before this.
-unfoldable pub questionRefusals : Header → Source → ℕ → Asked → List Refusal
-questionRefusals header source room asked =
+-- 1, 3 and 12 of a question: these ask only the header.
+unfoldable pub askedRefusals : Header → Asked → List Refusal
+askedRefusals header asked =
     (1 when not (wellAsked asked))
     ∷ (3 when not (declared header (asked .object)))
     ∷ (12 when not (fits (asked .question) (kindIn header (asked .object))))
-    ∷ (11 when listTooLong source room asked)
     ∷ []
+
+-- "A question passes 14, 1, 3, 12, 11": 14 and a line's shape come before this.
+unfoldable pub questionRefusals : Header → Source → ℕ → Asked → List Refusal
+questionRefusals header source room asked = askedRefusals header asked ++ ((11 when listTooLong source room asked) ∷ [])
 
 -- "opening 1, 13": 1 is about the line's shape and comes before this. 13: "group size, own station, object count, kind or capacity out of
 -- range, or space too small"; how long a table of this header is, the layout says. "in the station program, a second opening" is that program's.

@@ -1,0 +1,169 @@
+// What an object's kind allows: its codes, its values, and the questions that fit it.
+ghost use mathlib.Core.Path.{_≡_};
+ghost use lib.Dec.{ltb};
+ghost use lib.ListN.{length, getD};
+ghost use Rattle.meaning.specs.Operations.{allowed, codeAllowed, isCounter, isFlag, valueAllowed};
+ghost use Rattle.meaning.specs.Questions.{fits};
+ghost use Rattle.meaning.specs.Refusals.{wellAsked};
+ghost use Rattle.allowing.specs.Asking.{askedFrom};
+
+const NO_KIND: u32 = 0;
+
+const GROW_COUNTER: u32 = 1;
+
+const UP_DOWN_COUNTER: u32 = 2;
+
+const GROW_SET: u32 = 3;
+
+const ENABLE_WINS_FLAG: u32 = 5;
+
+const DISABLE_WINS_FLAG: u32 = 6;
+
+const MULTI_VALUE_REGISTER: u32 = 7;
+
+const REMOVE_WINS_SET: u32 = 9;
+
+const ADDS: u32 = 1;
+
+const REMOVES: u32 = 2;
+
+const CLEARS: u32 = 3;
+
+const LEAST_AMOUNT: u32 = 1;
+
+const GREATEST_AMOUNT: u32 = 1000000;
+
+const NO_VALUE: u32 = 0;
+
+const ASKS_TOTAL: u32 = 1;
+
+const ASKS_FLAG: u32 = 2;
+
+const ASKS_HOLDS: u32 = 5;
+
+// The kind of an object, or none where it is not declared.
+pub fn kind_of(kinds: &[u32], object: u32) -> u32
+    ensures { λ r. ⌜ r ≡ getD (now (kinds .entry)) object 0 ⌝ }
+{
+    let at = tags::wide(object);
+    if at < kinds.len() {
+        return kinds[at];
+    }
+    NO_KIND
+}
+
+// Whether an object is declared.
+pub fn is_declared(kinds: &[u32], object: u32) -> bool
+    ensures { λ r. ⌜ r ≡ ltb object (length (now (kinds .entry))) ⌝ }
+{
+    tags::wide(object) < kinds.len()
+}
+
+// Whether objects of this kind are counters, whose values are amounts.
+fn is_counter(kind: u32) -> bool
+    ensures { λ r. ⌜ r ≡ isCounter kind ⌝ }
+{
+    if kind == GROW_COUNTER {
+        return true;
+    }
+    kind == UP_DOWN_COUNTER
+}
+
+// Whether objects of this kind are flags, whose operations carry no value.
+fn is_flag(kind: u32) -> bool
+    ensures { λ r. ⌜ r ≡ isFlag kind ⌝ }
+{
+    if kind == ENABLE_WINS_FLAG {
+        return true;
+    }
+    kind == DISABLE_WINS_FLAG
+}
+
+// Whether a kind has this code: all kinds have adds, the grow-only ones and the register no removes, the last three clears.
+fn code_allowed(kind: u32, code: u32) -> bool
+    ensures { λ r. ⌜ r ≡ codeAllowed kind code ⌝ }
+{
+    if kind < GROW_COUNTER {
+        return false;
+    }
+    if REMOVE_WINS_SET < kind {
+        return false;
+    }
+    if code == ADDS {
+        return true;
+    }
+    if code == CLEARS {
+        return MULTI_VALUE_REGISTER <= kind;
+    }
+    if code != REMOVES {
+        return false;
+    }
+    if kind == GROW_COUNTER {
+        return false;
+    }
+    if kind == GROW_SET {
+        return false;
+    }
+    kind != MULTI_VALUE_REGISTER
+}
+
+// Whether an operation of this code may carry this value, where the kind has the code.
+fn value_allowed(kind: u32, code: u32, value: u32) -> bool
+    ensures { λ r. ⌜ r ≡ valueAllowed kind code value ⌝ }
+{
+    if is_counter(kind) {
+        if value < LEAST_AMOUNT {
+            return false;
+        }
+        return value <= GREATEST_AMOUNT;
+    }
+    if is_flag(kind) {
+        return value == NO_VALUE;
+    }
+    if code == CLEARS {
+        return value == NO_VALUE;
+    }
+    true
+}
+
+// Whether a kind allows an operation of this code and value; no kind but the nine allows any.
+pub fn is_allowed(kind: u32, code: u32, value: u32) -> bool
+    ensures { λ r. ⌜ r ≡ allowed kind code value ⌝ }
+{
+    if code_allowed(kind, code) {
+        return value_allowed(kind, code, value);
+    }
+    false
+}
+
+// Whether a question fits a kind: totals are asked of counters, on or off of flags, and all else of the others.
+pub fn is_fitted(question: u32, kind: u32) -> bool
+    ensures { λ r. ⌜ r ≡ fits question kind ⌝ }
+{
+    if question == ASKS_TOTAL {
+        return is_counter(kind);
+    }
+    if question == ASKS_FLAG {
+        return is_flag(kind);
+    }
+    if is_counter(kind) {
+        return false;
+    }
+    !is_flag(kind)
+}
+
+// Whether a question is known, with a value only where it takes one.
+pub fn well_asked(question: u32, value: u32) -> bool
+    ensures { λ r. ⌜ r ≡ wellAsked (askedFrom 0 question value) ⌝ }
+{
+    if question < ASKS_TOTAL {
+        return false;
+    }
+    if ASKS_HOLDS < question {
+        return false;
+    }
+    if question == ASKS_HOLDS {
+        return true;
+    }
+    value == NO_VALUE
+}
