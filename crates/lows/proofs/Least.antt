@@ -106,7 +106,7 @@ least-below (x ∷ v) (d ∷ clock) h e =
     let m : min d x ≡ x = omega arith in
     rw (m, least-below v clock (and-right (leb x d) (atMost v clock) h) (omega arith)) refl
 
-wide-others : (n own : ℕ) (l : List Vector) → Wide n l → Wide n (othersOf own l)
+pub wide-others : (n own : ℕ) (l : List Vector) → Wide n l → Wide n (othersOf own l)
 wide-others n own [] h = tt
 wide-others n zero (v ∷ l) h = h .1
 wide-others n (suc own) (v ∷ l) h = (h .0, wide-others n own l (h .1))
@@ -115,6 +115,21 @@ low-by-clock : (clock : Vector) (others : List Vector) → Wide (length clock) o
 unfolding isBelow
 low-by-clock clock [] w h = refl
 low-by-clock clock (v ∷ others) w h = ap (λ (u : Vector). leastOf u others) (least-below v clock (and-left (atMost v clock) (every (isBelow clock) others) h) (w .0))
+
+-- Low is as long as the clock
+least-length : (u v : Vector) → length u ≡ length v → length (least u v) ≡ length u
+least-length [] [] e = refl
+least-length [] (y ∷ v) e = refl
+least-length (x ∷ u) [] e = absurd (omega arith)
+least-length (x ∷ u) (y ∷ v) e = ap suc (least-length u v (omega arith))
+
+least-of-length : (n : ℕ) (u : Vector) (others : List Vector) → length u ≡ n → Wide n others → length (leastOf u others) ≡ n
+least-of-length n u [] e w = e
+least-of-length n u (v ∷ others) e w = least-of-length n (least u v) others (least-length u v (e ∙ sym (w .0)) ∙ e) (w .1)
+
+pub low-length : (n : ℕ) (clock : Vector) (others : List Vector) → length clock ≡ n → Wide n others → length (lowOf clock others) ≡ n
+low-length n clock [] e w = e
+low-length n clock (v ∷ others) e w = least-of-length n v others (w .0) (w .1)
 
 -- the array that begins with Low
 module _ (clock lasts low : List ℕ) (own : ℕ) (few : length clock ≤ 16) (room : length clock * length clock ≤ length lasts) (laid : low ≡ paste (replicate 16 0) 0 clock (length clock)) where

@@ -1,0 +1,61 @@
+// The settling call on a table that was checked: Low is found, and the rows are passed once.
+ghost use mathlib.Core.Path.{_≡_};
+ghost use Prim.Native.Nat.{_≤_};
+ghost use lib.ListN.{take, drop};
+ghost use Rattle.meaning.specs.Table.{low};
+ghost use Rattle.meaning.specs.Calls.{rowsSettled, steps, withRows};
+ghost use Rattle.layout.specs.Words.{padded};
+ghost use Rattle.layout.specs.Layout.{kindsAt, rewritten, sizeIn, tableOf};
+ghost use Rattle.table.specs.Changes.{Opened};
+ghost use Rattle.checked.specs.Checked.{Checked};
+use tags::RowCount;
+use tags::Station;
+
+// A table has at most so many objects.
+const MOST_OBJECTS: usize = 32;
+
+// The words of the kinds, copied so that the rows can be lent beside them.
+fn kinds_of(s: &[u32]) -> [u32; MOST_OBJECTS]
+    requires { ⌜ Checked (now s) ⌝ }
+    ensures { λ r. ⌜ r ≡ take 32 (drop kindsAt (now (s .entry))) ⌝ }
+{
+    let mut kinds = [0u32; MOST_OBJECTS];
+    moves::put(&mut kinds, 0, &s[layout::KINDS_AT..layout::TOTALS_AT]);
+    kinds
+}
+
+// Low of a table, with zeros behind it.
+fn low_in(s: &[u32], size: usize) -> [u32; lows::MOST_STATIONS]
+    requires { ⌜ Checked (now s) × (size ≡ sizeIn (now s)) × (size ≤ 16) ⌝ }
+    ensures { λ r. ⌜ r ≡ padded 16 (low (tableOf (now (s .entry)))) ⌝ }
+{
+    let end = layout::CLOCK_AT + size;
+    lows::low_of(
+        &s[layout::CLOCK_AT..end],
+        &s[end..],
+        Station(s[layout::OWN_AT]),
+    )
+}
+
+// The same with the numbers of the head in hand.
+fn settle_opened(s: &mut [u32], size: usize, count: RowCount, limit: RowCount) -> RowCount
+    requires { ⌜ Checked (now s) × Opened (now s) size (count .0) ⌝ }
+    ensures { λ r. ⌜ (r .0 ≡ steps (tableOf (now (s .entry))) (limit .0)) × (now (s .exit) ≡ rewritten (now (s .entry)) (withRows (tableOf (now (s .entry))) (rowsSettled (tableOf (now (s .entry))) (limit .0)))) ⌝ }
+{
+    let kinds = kinds_of(s);
+    let low = low_in(s, size);
+    let base = layout::CLOCK_AT + size + size * size;
+    let passed = settling::pass_rows(&mut s[base..], size, count, &kinds, &low[0..size], limit);
+    s[layout::COUNT_AT] = passed.left.0;
+    passed.taken
+}
+
+// Takes settling steps until the limit or until no stable unsettled row is left, and reports how many it took.
+pub fn settle_table(s: &mut [u32], limit: RowCount) -> RowCount
+    requires { ⌜ Checked (now s) ⌝ }
+    ensures { λ r. ⌜ (r .0 ≡ steps (tableOf (now (s .entry))) (limit .0)) × (now (s .exit) ≡ rewritten (now (s .entry)) (withRows (tableOf (now (s .entry))) (rowsSettled (tableOf (now (s .entry))) (limit .0)))) ⌝ }
+{
+    let size = tags::wide(s[layout::SIZE_AT]);
+    let count = RowCount(s[layout::COUNT_AT]);
+    settle_opened(s, size, count, limit)
+}
