@@ -1,0 +1,16 @@
+-- The bytes that a line says.
+use Prim.Native.Nat.{ℕ}
+use mathlib.Core.List.{List, [], _∷_}
+use lib.ListN.{length}
+use Rattle.hexes.specs.Choice.{pick}
+use Rattle.hexes.specs.Decoding.{decoded, isLine, pairs}
+use Rattle.lines.specs.Types.{longest}
+
+-- Of a "line not lower-case hexadecimal or without its LF", and of one longer than the longest, none: no line has no bytes, so it gets the
+-- refusal of a "wrong length or type".
+unfoldable pub bytesOf : List ℕ → List ℕ
+bytesOf line = pick (isLine longest line) (pairs longest line) []
+
+-- How many they are, and the buffer, which begins with them.
+unfoldable pub heardIn : List ℕ → List ℕ → ℕ × List ℕ
+heardIn line buffer = (length (bytesOf line), decoded line buffer .1)
