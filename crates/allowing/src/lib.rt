@@ -152,7 +152,7 @@ pub fn is_fitted(question: u32, kind: u32) -> bool
     !is_flag(kind)
 }
 
-// Whether a question is known, with a value only where it takes one.
+// Whether a question is known, with a value only where it takes one; its object does not matter here.
 pub fn well_asked(question: u32, value: u32) -> bool
     ensures { λ r. ⌜ r ≡ wellAsked (askedFrom 0 question value) ⌝ }
 {

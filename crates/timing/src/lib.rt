@@ -37,7 +37,7 @@ fn entry_in_time(entry: u32, known: u32, own: bool) -> bool
     false
 }
 
-// Whether no entry comes too early; it notes a fault and never leaves early, so that every frame takes the same way.
+// Whether no entry comes too early; it notes a fault and goes on to the end, as tags::at_most does.
 pub fn in_time(v: &[u32], clock: &[u32], sender: Station) -> bool
     requires { ⌜ length (now v) ≡ length (now clock) ⌝ }
     ensures { λ r. ⌜ r ≡ atMost (now (v .entry)) (raised (now (clock .entry)) (sender .0)) ⌝ }
