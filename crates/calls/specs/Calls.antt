@@ -1,13 +1,37 @@
 -- The calls: what each answers to a line, and the space afterwards.
-use mathlib.Core.List.{List}
+use mathlib.Core.List.{List, _++_}
 use Prim.Native.Nat.{ℕ}
+use lib.ListN.{drop, length}
+use Rattle.meaning.specs.Table.{Header}
 use Rattle.meaning.specs.Calls as meaning
-use Rattle.layout.specs.Layout.{holdsTable, tableOf, rewritten}
+use Rattle.layout.specs.Layout.{holdsTable, tableOf, rewritten, spaceFor, wordsOf}
+use Rattle.ranges.specs.Headers.{headerOf}
 use Rattle.hexes.specs.Choice.{pick}
-use Rattle.lines.specs.Named.{settlingRead}
+use Rattle.lines.specs.Named.{openingRead, settlingRead}
 use Rattle.heard.specs.Hearing.{bytesOf}
+use Rattle.calls.specs.declared.Opened.{Opened}
+use Rattle.calls.specs.declared.Opened.the-variants as opened
 use Rattle.calls.specs.declared.Settled.{Settled}
 use Rattle.calls.specs.declared.Settled.the-variants as settled
+
+-- "A refusal returns its number" and changes nothing; an opening that is taken lays the table, and "Bytes of a space beyond a result stay".
+unfoldable pub openedAs : List ℕ → meaning.Opening → Opened × List ℕ
+openedAs words (meaning.Opening.refused number) = (opened.Refused number, words)
+openedAs words (meaning.Opening.fresh table) = (opened.Fresh, wordsOf table ++ drop (spaceFor (table .header .size) (table .header .capacity)) words)
+
+-- The header that an opening's bytes say; the kinds are its bytes from the sixth on.
+unfoldable pub headerRead : List ℕ → Header
+headerRead bytes =
+    let asked = openingRead bytes in
+    headerOf (asked .stations) (asked .own) (asked .capacity) (drop 6 bytes)
+
+-- "opening 1, 13".
+unfoldable pub openedBy : List ℕ → List ℕ → Opened × List ℕ
+openedBy line words =
+    let header = headerRead (bytesOf line) in
+    pick (openingRead (bytesOf line) .ok)
+    (openedAs words (meaning.openTable (length words) (spaceFor (header .size) (header .capacity)) header))
+    (opened.Refused 1, words)
 
 -- "A refusal returns its number" and changes nothing; a settling call that is taken reports its steps.
 unfoldable pub settledAs : List ℕ → meaning.Settled → Settled × List ℕ

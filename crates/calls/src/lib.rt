@@ -1,17 +1,61 @@
 // The public calls over a lent table space and a lent line. Each tries its refusals in 01's order, and a refusal changes nothing.
 ghost use mathlib.Core.Path.{_≡_};
-ghost use Rattle.calls.specs.Calls.{settledBy};
+ghost use lib.ListN.{length};
+ghost use Rattle.meaning.specs.Calls.{openTable};
+ghost use Rattle.layout.specs.Layout.{spaceFor};
+ghost use Rattle.ranges.specs.Headers.{headerOf};
+ghost use Rattle.calls.specs.Calls.{openedAs, openedBy, settledBy};
+use refusals::Header;
 use tags::RowCount;
+use tags::Station;
 
 // The refusals that every call tries itself: no table in the space, and a line that is not of the call's type and shape.
 const NO_TABLE: u32 = 14;
 
 const MISSHAPEN: u32 = 1;
 
+// What an opening answers: a refusal's number, or nothing but that the table is fresh.
+pub enum Opened {
+    Refused(u32),
+    Fresh,
+}
+
 // What a settling call answers: a refusal's number, or how many steps it took.
 pub enum Settled {
     Refused(u32),
     Steps(RowCount),
+}
+
+// Opens a table with these numbers and kinds, if they are in range and the space is large enough.
+fn open_with(space: &mut [u32], asked: lines::Opening, kinds: &[u8]) -> Opened
+    ensures { λ r. ⌜ (r, now (space .exit)) ≡ openedAs (now (space .entry)) (openTable (length (now (space .entry))) (spaceFor (asked .stations) (asked .capacity)) (headerOf (asked .stations) (asked .own) (asked .capacity) (now (kinds .entry)))) ⌝ }
+{
+    let own = Station(asked.own);
+    let capacity = RowCount(asked.capacity);
+    let h = Header {
+        size: asked.stations,
+        own,
+        capacity,
+    };
+    let refusal = refusals::opening_refusal(h, kinds, space.len());
+    if refusal != refusals::NONE {
+        return Opened::Refused(refusal);
+    }
+    opening::lay_table(space, asked.stations, own, capacity, kinds);
+    Opened::Fresh
+}
+
+// "opening 1, 13": any space will do, one that holds a table too.
+pub fn open(space: &mut [u32], line: &[u8]) -> Opened
+    ensures { λ r. ⌜ (r, now (space .exit)) ≡ openedBy (now (line .entry)) (now (space .entry)) ⌝ }
+{
+    let mut bytes = [0u8; lines::LONGEST];
+    let n = heard::hear(line, &mut bytes);
+    let asked = lines::read_opening(&bytes[0..n]);
+    if asked.ok {
+        return open_with(space, asked, &bytes[lines::KINDS_PLACE..n]);
+    }
+    Opened::Refused(MISSHAPEN)
 }
 
 // "Settling passes 14, 1".

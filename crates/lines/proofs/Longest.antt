@@ -55,7 +55,7 @@ module _ (bytes : List ℕ) where
   count-at true k = count-field bytes
   count-at false k = absurd (let z : _≡_ {A = ℕ} 0 1 = cc in omega arith)
 
-  opening-size : openingRead bytes .ok ≡ true → length bytes ≡ 6 + openingRead bytes .count
+  pub opening-size : openingRead bytes .ok ≡ true → length bytes ≡ 6 + openingRead bytes .count
   unfolding openingRead
   opening-size e = size-at (isOf opening (getD bytes 5 0) bytes) refl e ∙ ap (λ (n : ℕ). 6 + n) (sym (count-at (isOf opening (getD bytes 5 0) bytes) e))
 
