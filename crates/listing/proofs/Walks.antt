@@ -1,6 +1,6 @@
 -- From one value of an object to the next.
-use mathlib.Core.Path.{_≡_, refl, sym, ap, _∙_, subst}
-use mathlib.Core.Bool.{Bool, true, false, _||_, cond}
+use mathlib.Core.Path.{_≡_, refl, sym, ap, _∙_}
+use mathlib.Core.Bool.{true, _||_}
 use mathlib.Core.List.{List, [], _∷_, map, List·Memᴰ, List·Memᴰ·head, List·Memᴰ·tail}
 use Prim.Native.Nat.{ℕ, zero, suc, _+_, _-_, _*_, _≤_, _<_}
 use native.Mathlib.Nat.{suc-mul, zero-mul, add-mul}
@@ -9,7 +9,7 @@ use borrow.Author.Tests.{eqb-true, ltb-true, leb-true, leb-false}
 use mir.Val.{Fits}
 use mir.Syntax.{w32, w64}
 use lib.Dec.{eqb, leb}
-use lib.ListN.{length, getD, take, drop, length-map, drop-of-length-le}
+use lib.ListN.{length, getD, take, drop, drop-of-length-le}
 use lib.Seq.{drop-drop, getD-take, getD-drop}
 use Rattle.meaning.specs.Operations.{isCounter, isFlag, clears, valueAllowed}
 use Rattle.meaning.specs.Rows.{Row}

@@ -1,13 +1,7 @@
-use native.Mathlib.Omega.{arith}
 use borrow.Author.Needs.{needs}
 use Rattle.listing.proofs.Scanned.{part-room, count-by-rows}
 use Rattle.listing.proofs.count_in.Statement.{statement}
 use Rattle.listing.proofs.count_in.Tie as tie
-use Rattle.listing.proofs.count_in.Reads as reads
-use Rattle.listing.proofs.count_in.Lts as lts
-use Rattle.listing.proofs.row_width.Reads as row-width-reads
-use Rattle.listing.proofs.rows_start.Reads as rows-start-reads
-use Rattle.scans.proofs.count_shown.Reads as count-shown-reads
 
 rows-start-requires : tie.Need-rows-start-requires
 rows-start-requires c κs = search needs

@@ -1,13 +1,7 @@
-use native.Mathlib.Omega.{arith}
 use borrow.Author.Needs.{needs}
 use Rattle.listing.proofs.Scanned.{part-room, in-by-rows}
 use Rattle.listing.proofs.is_in.Statement.{statement}
 use Rattle.listing.proofs.is_in.Tie as tie
-use Rattle.listing.proofs.is_in.Reads as reads
-use Rattle.listing.proofs.is_in.Lts as lts
-use Rattle.listing.proofs.row_width.Reads as row-width-reads
-use Rattle.listing.proofs.rows_start.Reads as rows-start-reads
-use Rattle.scans.proofs.value_shown.Reads as value-shown-reads
 
 rows-start-requires : tie.Need-rows-start-requires
 rows-start-requires c κs = search needs

@@ -1,11 +1,7 @@
-use native.Mathlib.Omega.{arith}
 use borrow.Author.Needs.{needs}
 use Rattle.listing.proofs.Lists.{Writing, writing-start, writing-done, one-left, to-within, writing-next}
 use Rattle.listing.proofs.list_into.Statement.{statement}
 use Rattle.listing.proofs.list_into.Tie as tie
-use Rattle.listing.proofs.list_into.Reads as reads
-use Rattle.listing.proofs.list_into.Lts as lts
-use Rattle.listing.proofs.next_value.Reads as next-value-reads
 
 abbrev Inv-loop : tie.InvT-loop
 Inv-loop s object out₀ passed₀ to₀ left₀ out passed to left = Writing s object out₀ out passed to left

@@ -1,14 +1,7 @@
-use native.Mathlib.Omega.{arith}
 use borrow.Author.Needs.{needs}
 use Rattle.listing.proofs.Walks.{passed-most, passed-fits, from-fits, rest-room, sum-fits, next-fits, before-fits, at-fits, low-fits, low-scaled, low-within, walked}
 use Rattle.listing.proofs.next_value.Statement.{statement}
 use Rattle.listing.proofs.next_value.Tie as tie
-use Rattle.listing.proofs.next_value.Reads as reads
-use Rattle.listing.proofs.next_value.Lts as lts
-use Rattle.listing.proofs.row_width.Reads as row-width-reads
-use Rattle.listing.proofs.rows_start.Reads as rows-start-reads
-use Rattle.scans.proofs.next_shown.Reads as next-shown-reads
-use Rattle.tags.proofs.wide.Reads as wide-reads
 
 row-width-requires : tie.Need-row-width-requires
 row-width-requires c κs = search needs

@@ -1,11 +1,7 @@
-use native.Mathlib.Omega.{arith}
 use borrow.Author.Needs.{needs}
 use Rattle.listing.proofs.Scanned.{square-fits, start-fits, start-is, start-within}
 use Rattle.listing.proofs.rows_start.Statement.{statement}
 use Rattle.listing.proofs.rows_start.Tie as tie
-use Rattle.listing.proofs.rows_start.Reads as reads
-use Rattle.listing.proofs.rows_start.Lts as lts
-use Rattle.tags.proofs.wide.Reads as wide-reads
 
 shared-slice-read-wide : tie.Need-shared-slice-read-wide
 shared-slice-read-wide c = search needs
