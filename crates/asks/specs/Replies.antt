@@ -44,3 +44,13 @@ unfoldable pub listReply : Table → ℕ → ℕ → Reply
 listReply table o room =
     let values = byRows table .listAt o in
     cond (ltb room (length values)) (tooLong (length values)) (answered (list values))
+
+-- The number that a question gets, 0 where it is answered; 11 comes with the needed count.
+unfoldable pub numberOf : code.Reply → ℕ
+numberOf (says.Refused number) = number
+numberOf (says.TooLong needed) = 11
+numberOf (says.Total high low) = 0
+numberOf (says.Flag on) = 0
+numberOf (says.List length) = 0
+numberOf (says.Count number) = 0
+numberOf (says.Holds there) = 0

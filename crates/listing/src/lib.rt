@@ -55,7 +55,9 @@ pub fn count_in(s: &[u32], object: u32) -> RowCount
 {
     let start = rows_start(s);
     let width = row_width(s);
-    scans::count_shown(&s[start..], width, RowCount(s[COUNT_AT]), object)
+    let rows = RowCount(s[COUNT_AT]);
+    let values = scans::count_shown(&s[start..], width, rows, object);
+    values
 }
 
 // The next value of the object behind so many rows, where one is left: a walk over the list without a space for it.

@@ -9,6 +9,9 @@ rows-start-requires c κs = search needs
 row-width-requires : tie.Need-row-width-requires
 row-width-requires c κs = search needs
 
+shared-slice-read-t8 : tie.Need-shared-slice-read-t8
+shared-slice-read-t8 c = search needs
+
 mul-count-shown : tie.Need-mul-count-shown
 mul-count-shown c = search needs
 
@@ -20,9 +23,6 @@ part-count-shown-start c = search needs
 
 part-count-shown-end : tie.Need-part-count-shown-end
 part-count-shown-end c = search needs
-
-shared-slice-read-t11 : tie.Need-shared-slice-read-t11
-shared-slice-read-t11 c = search needs
 
 count-shown-requires : tie.Need-count-shown-requires
 count-shown-requires c κs = (search part-room, search needs)
@@ -36,10 +36,10 @@ count-in-spec =
     (tie.spec
     rows-start-requires
     row-width-requires
+    shared-slice-read-t8
     mul-count-shown
     sub-count-shown
     part-count-shown-start
     part-count-shown-end
-    shared-slice-read-t11
     count-shown-requires
     returns)
