@@ -35,11 +35,16 @@ const GREATEST_AMOUNT: u32 = 1000000;
 
 const NO_VALUE: u32 = 0;
 
-const ASKS_TOTAL: u32 = 1;
+// The five questions.
+pub const ASKS_TOTAL: u32 = 1;
 
-const ASKS_FLAG: u32 = 2;
+pub const ASKS_FLAG: u32 = 2;
 
-const ASKS_HOLDS: u32 = 5;
+pub const ASKS_LIST: u32 = 3;
+
+pub const ASKS_COUNT: u32 = 4;
+
+pub const ASKS_HOLDS: u32 = 5;
 
 // The kind of an object, or none where it is not declared.
 pub fn kind_of(kinds: &[u32], object: u32) -> u32

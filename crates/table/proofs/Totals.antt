@@ -44,7 +44,7 @@ module _ (s : List ℕ) (n count o : ℕ) (O : Opened s n count) (h : o < object
   pub total-room-set : (x : ℕ) → 39 + o * 2 + 1 < length (set s (39 + o * 2) x)
   total-room-set x = rw (length-set s (39 + o * 2) x) total-room
 
-  old-total : totalOfWords (getD s (39 + o * 2) 0 ∷ getD s (39 + o * 2 + 1) 0 ∷ []) ≡ getD (tableOf s .totals) o (pos 0)
+  pub old-total : totalOfWords (getD s (39 + o * 2) 0 ∷ getD s (39 + o * 2 + 1) 0 ∷ []) ≡ getD (tableOf s .totals) o (pos 0)
   unfolding tableOf
   old-total =
       let r : objectsIn s * 2 ≤ length (drop 39 s) = simp length-drop (omega (arith, O .laid .objects, O .laid .room)) in

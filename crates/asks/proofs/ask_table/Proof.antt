@@ -1,0 +1,85 @@
+use borrow.Author.Needs.{needs}
+use Rattle.asks.proofs.Asked.{refused-told, refused-left, object-declared, list-asked-told, list-asked-left, left-alone, total-told, total-left, flag-told, flag-left, count-told, holds-told}
+use Rattle.asks.proofs.ask_table.Statement.{statement}
+use Rattle.asks.proofs.ask_table.Tie as tie
+
+shared-slice-read-wide : tie.Need-shared-slice-read-wide
+shared-slice-read-wide c = search needs
+
+wide-requires : tie.Need-wide-requires
+wide-requires c κs = search needs
+
+add-end : tie.Need-add-end
+add-end c = search needs
+
+sub-question-refusal : tie.Need-sub-question-refusal
+sub-question-refusal c = search needs
+
+part-question-refusal-start : tie.Need-part-question-refusal-start
+part-question-refusal-start c = search needs
+
+part-question-refusal-end : tie.Need-part-question-refusal-end
+part-question-refusal-end c = search needs
+
+question-refusal-requires : tie.Need-question-refusal-requires
+question-refusal-requires c κs = search needs
+
+returns : tie.Need-returns
+returns c = (search refused-told, search refused-left)
+
+total-of-requires : tie.Need-total-of-requires
+total-of-requires c κs = (search needs, search object-declared)
+
+returns-2 : tie.Need-returns-2
+returns-2 c = (search total-told, search total-left)
+
+is-in-requires : tie.Need-is-in-requires
+is-in-requires c κs = search needs
+
+returns-3 : tie.Need-returns-3
+returns-3 c = (search flag-told, search flag-left)
+
+list-reply-requires : tie.Need-list-reply-requires
+list-reply-requires c κs = search needs
+
+same-length : tie.Need-same-length
+same-length c = search needs
+
+returns-4 : tie.Need-returns-4
+returns-4 c = (search list-asked-told, search list-asked-left)
+
+count-in-requires : tie.Need-count-in-requires
+count-in-requires c κs = search needs
+
+returns-5 : tie.Need-returns-5
+returns-5 c = (search count-told, search left-alone)
+
+is-in-requires-2 : tie.Need-is-in-requires-2
+is-in-requires-2 c κs = search needs
+
+returns-6 : tie.Need-returns-6
+returns-6 c = (search holds-told, search left-alone)
+
+pub ask-table-spec : {M : Type 1} → statement M
+ask-table-spec =
+    tie.close
+    (tie.spec
+    shared-slice-read-wide
+    wide-requires
+    add-end
+    sub-question-refusal
+    part-question-refusal-start
+    part-question-refusal-end
+    question-refusal-requires
+    returns
+    total-of-requires
+    returns-2
+    is-in-requires
+    returns-3
+    list-reply-requires
+    same-length
+    returns-4
+    count-in-requires
+    returns-5
+    is-in-requires-2
+    returns-6)

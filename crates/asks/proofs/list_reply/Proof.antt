@@ -1,0 +1,27 @@
+use borrow.Author.Needs.{needs}
+use Rattle.asks.proofs.Asked.{too-long-told, too-long-left, list-told, list-left}
+use Rattle.asks.proofs.list_reply.Statement.{statement}
+use Rattle.asks.proofs.list_reply.Tie as tie
+
+count-in-requires : tie.Need-count-in-requires
+count-in-requires c κs = search needs
+
+wide-requires : tie.Need-wide-requires
+wide-requires c κs = search needs
+
+returns : tie.Need-returns
+returns c = (search too-long-told, search too-long-left)
+
+list-into-requires : tie.Need-list-into-requires
+list-into-requires c κs = search needs
+
+same-length : tie.Need-same-length
+same-length c = search needs
+
+returns-2 : tie.Need-returns-2
+returns-2 c = (search list-told, search list-left)
+
+pub list-reply-spec : {M : Type 1} → statement M
+list-reply-spec =
+    tie.close
+    (tie.spec count-in-requires wide-requires returns list-into-requires same-length returns-2)
