@@ -6,8 +6,12 @@ use Rattle.meaning.specs.Table.{Header}
 use Rattle.meaning.specs.Calls as meaning
 use Rattle.layout.specs.Layout.{holdsTable, tableOf, rewritten, spaceFor, wordsOf}
 use Rattle.ranges.specs.Headers.{headerOf}
+use Rattle.allowing.specs.Asking.{askedFrom}
+use Rattle.asks.specs.declared.Reply.{Reply}
+use Rattle.asks.specs.declared.Reply.the-variants as replied
+use Rattle.asks.specs.Replies.{told, spaceAfter}
 use Rattle.hexes.specs.Choice.{pick}
-use Rattle.lines.specs.Named.{openingRead, settlingRead}
+use Rattle.lines.specs.Named.{openingRead, questionRead, settlingRead}
 use Rattle.heard.specs.Hearing.{bytesOf}
 use Rattle.calls.specs.declared.Opened.{Opened}
 use Rattle.calls.specs.declared.Opened.the-variants as opened
@@ -45,3 +49,12 @@ settledBy line words =
     pick (holdsTable words)
     (pick (asked .ok) (settledAs words (meaning.settle (tableOf words) (asked .limit))) (settled.Refused 1, words))
     (settled.Refused 14, words)
+
+-- "A question passes 14, 1, 3, 12, 11": what it gets, and the list space.
+unfoldable pub repliedBy : List ℕ → List ℕ → List ℕ → Reply × List ℕ
+repliedBy line words out =
+    let asked = questionRead (bytesOf line) in
+    let reply = meaning.ask (tableOf words) (length out) (askedFrom (asked .object) (asked .question) (asked .value)) in
+    pick (holdsTable words)
+    (pick (asked .ok) (told reply, spaceAfter reply out) (replied.Refused 1, out))
+    (replied.Refused 14, out)

@@ -4,7 +4,8 @@ ghost use lib.ListN.{length};
 ghost use Rattle.meaning.specs.Calls.{openTable};
 ghost use Rattle.layout.specs.Layout.{spaceFor};
 ghost use Rattle.ranges.specs.Headers.{headerOf};
-ghost use Rattle.calls.specs.Calls.{openedAs, openedBy, settledBy};
+ghost use Rattle.calls.specs.Calls.{openedAs, openedBy, repliedBy, settledBy};
+use asks::Reply;
 use refusals::Header;
 use tags::RowCount;
 use tags::Station;
@@ -70,4 +71,18 @@ pub fn settle(space: &mut [u32], line: &[u8]) -> Settled
         return Settled::Refused(MISSHAPEN);
     }
     Settled::Refused(NO_TABLE)
+}
+
+// "A question passes 14, 1, 3, 12, 11": the table is only looked at, and a list goes into the lent space.
+pub fn ask(space: &[u32], line: &[u8], out: &mut [u32]) -> Reply
+    ensures { λ r. ⌜ (r, now (out .exit)) ≡ repliedBy (now (line .entry)) (now (space .entry)) (now (out .entry)) ⌝ }
+{
+    if rules::is_table(space) {
+        let asked = heard::question(line);
+        if asked.ok {
+            return asks::ask_table(space, asked.object, asked.question, asked.value, out);
+        }
+        return Reply::Refused(MISSHAPEN);
+    }
+    Reply::Refused(NO_TABLE)
 }

@@ -1,0 +1,35 @@
+-- A question, way by way.
+use mathlib.Core.Path.{_≡_, refl, sym, ap, ap₂, _∙_}
+use mathlib.Core.Bool.{Bool, true, false}
+use mathlib.Core.List.{List}
+use Prim.Native.Nat.{ℕ}
+use lib.ListN.{length}
+use Rattle.meaning.specs.Calls as meaning
+use Rattle.layout.specs.Layout.{holdsTable, tableOf}
+use Rattle.allowing.specs.Asking.{askedFrom}
+use Rattle.asks.specs.declared.Reply.{Reply}
+use Rattle.asks.specs.declared.Reply.the-variants as replied
+use Rattle.asks.specs.Replies.{told, spaceAfter}
+use Rattle.lines.specs.declared.Question.{Question}
+use Rattle.lines.specs.Named.{questionRead}
+use Rattle.heard.specs.Hearing.{bytesOf}
+use Rattle.calls.specs.Calls.{repliedBy}
+
+module _ (line words out : List ℕ) (b : Bool) (e : b ≡ holdsTable words) where
+  pub ask-no-table : b ≡ false → (replied.Refused 14, out) ≡ repliedBy line words out
+  unfolding repliedBy
+  ask-no-table f = rw (sym e ∙ f) refl
+
+  module _ (t : b ≡ true) (asked : Question) (a : asked ≡ questionRead (bytesOf line)) where
+    ok-is : (c : Bool) → asked .ok ≡ c → questionRead (bytesOf line) .ok ≡ c
+    ok-is c f = sym (ap (λ (q : Question). q .ok) a) ∙ f
+
+    pub ask-misshapen : asked .ok ≡ false → (replied.Refused 1, out) ≡ repliedBy line words out
+    unfolding repliedBy
+    ask-misshapen f = rw (sym e ∙ t, ok-is false f) refl
+
+    pub ask-replied : asked .ok ≡ true → (r : Reply) (x : List ℕ) → r ≡ told (meaning.ask (tableOf words) (length out) (askedFrom (asked .object) (asked .question) (asked .value))) →
+        x ≡ spaceAfter (meaning.ask (tableOf words) (length out) (askedFrom (asked .object) (asked .question) (asked .value))) out → (r, x) ≡ repliedBy line words out
+    unfolding repliedBy
+    ask-replied f r x g h =
+        rw (sym e ∙ t, ok-is true f) (ap₂ (λ (p : Reply) (l : List ℕ). (p, l)) g h ∙ ap (λ (q : Question). (told (meaning.ask (tableOf words) (length out) (askedFrom (q .object) (q .question) (q .value))), spaceAfter (meaning.ask (tableOf words) (length out) (askedFrom (q .object) (q .question) (q .value))) out)) a)
