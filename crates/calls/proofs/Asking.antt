@@ -13,23 +13,28 @@ use Rattle.asks.specs.Replies.{told, spaceAfter}
 use Rattle.lines.specs.declared.Question.{Question}
 use Rattle.lines.specs.Named.{questionRead}
 use Rattle.heard.specs.Hearing.{bytesOf}
-use Rattle.calls.specs.Calls.{repliedBy}
+use Rattle.calls.specs.Calls.{repliedOn, repliedBy}
 
+-- 14, or the question to a table
 module _ (line words out : List ℕ) (b : Bool) (e : b ≡ holdsTable words) where
   pub ask-no-table : b ≡ false → (replied.Refused 14, out) ≡ repliedBy line words out
   unfolding repliedBy
   ask-no-table f = rw (sym e ∙ f) refl
 
-  module _ (t : b ≡ true) (asked : Question) (a : asked ≡ questionRead (bytesOf line)) where
-    ok-is : (c : Bool) → asked .ok ≡ c → questionRead (bytesOf line) .ok ≡ c
-    ok-is c f = sym (ap (λ (q : Question). q .ok) a) ∙ f
+  pub ask-table : b ≡ true → (r : Reply) (x : List ℕ) → (r, x) ≡ repliedOn line words out → (r, x) ≡ repliedBy line words out
+  unfolding repliedBy
+  ask-table t r x f = rw (sym e ∙ t) f
 
-    pub ask-misshapen : asked .ok ≡ false → (replied.Refused 1, out) ≡ repliedBy line words out
-    unfolding repliedBy
-    ask-misshapen f = rw (sym e ∙ t, ok-is false f) refl
+module _ (line words out : List ℕ) (asked : Question) (a : asked ≡ questionRead (bytesOf line)) where
+  ok-is : (c : Bool) → asked .ok ≡ c → questionRead (bytesOf line) .ok ≡ c
+  ok-is c f = sym (ap (λ (q : Question). q .ok) a) ∙ f
 
-    pub ask-replied : asked .ok ≡ true → (r : Reply) (x : List ℕ) → r ≡ told (meaning.ask (tableOf words) (length out) (askedFrom (asked .object) (asked .question) (asked .value))) →
-        x ≡ spaceAfter (meaning.ask (tableOf words) (length out) (askedFrom (asked .object) (asked .question) (asked .value))) out → (r, x) ≡ repliedBy line words out
-    unfolding repliedBy
-    ask-replied f r x g h =
-        rw (sym e ∙ t, ok-is true f) (ap₂ (λ (p : Reply) (l : List ℕ). (p, l)) g h ∙ ap (λ (q : Question). (told (meaning.ask (tableOf words) (length out) (askedFrom (q .object) (q .question) (q .value))), spaceAfter (meaning.ask (tableOf words) (length out) (askedFrom (q .object) (q .question) (q .value))) out)) a)
+  pub ask-misshapen : asked .ok ≡ false → (replied.Refused 1, out) ≡ repliedOn line words out
+  unfolding repliedOn
+  ask-misshapen f = rw (ok-is false f) refl
+
+  pub ask-replied : asked .ok ≡ true → (r : Reply) (x : List ℕ) → r ≡ told (meaning.ask (tableOf words) (length out) (askedFrom (asked .object) (asked .question) (asked .value))) →
+      x ≡ spaceAfter (meaning.ask (tableOf words) (length out) (askedFrom (asked .object) (asked .question) (asked .value))) out → (r, x) ≡ repliedOn line words out
+  unfolding repliedOn
+  ask-replied f r x g h =
+      rw (ok-is true f) (ap₂ (λ (p : Reply) (l : List ℕ). (p, l)) g h ∙ ap (λ (q : Question). (told (meaning.ask (tableOf words) (length out) (askedFrom (q .object) (q .question) (q .value))), spaceAfter (meaning.ask (tableOf words) (length out) (askedFrom (q .object) (q .question) (q .value))) out)) a)

@@ -29,7 +29,7 @@ use Rattle.lines.specs.Named.{settlingRead}
 use Rattle.heard.specs.Hearing.{bytesOf}
 use Rattle.calls.specs.declared.Settled.{Settled}
 use Rattle.calls.specs.declared.Settled.the-variants as settled
-use Rattle.calls.specs.Calls.{settledAs, settledBy}
+use Rattle.calls.specs.Calls.{settledAs, settledOn, settledBy}
 
 -- a space that was found to hold a table
 pub found : (s : List ℕ) (r : Bool) → r ≡ holdsTable s → r ≡ true → Checked s
@@ -52,25 +52,33 @@ limit-read bytes h = cases (hasShape 48 3 bytes)
     (λ b. rw b (let k = two-bytes (drop 1 bytes) (all-bytes-drop 1 bytes h) in omega arith))
     (λ b. rw b (omega arith))
 
+-- 14, or the call on a table
 module _ (line words : List ℕ) (b : Bool) (e : b ≡ holdsTable words) where
   pub settle-no-table : b ≡ false → (settled.Refused 14, words) ≡ settledBy line words
   unfolding settledBy
   settle-no-table f = rw (sym e ∙ f) refl
 
-  module _ (t : b ≡ true) (asked : Settling) (a : asked ≡ settlingRead (bytesOf line)) where
-    pub settle-misshapen : asked .ok ≡ false → (settled.Refused 1, words) ≡ settledBy line words
-    unfolding settledBy
-    settle-misshapen f = rw (sym e ∙ t, sym (ap (λ (x : Settling). x .ok) a) ∙ f) refl
+  pub settle-table : b ≡ true → (r : Settled) (x : List ℕ) → (r, x) ≡ settledOn line words → (r, x) ≡ settledBy line words
+  unfolding settledBy
+  settle-table t r x f = rw (sym e ∙ t) f
 
-    taken-as : (limit : ℕ) → limit ≤ 65535 → settledAs words (meaning.settle (tableOf words) limit) ≡ (settled.Steps (record { 0 = steps (tableOf words) limit }), rewritten words (withRows (tableOf words) (rowsSettled (tableOf words) limit)))
-    unfolding settledAs meaning.settle refusalOfSettling settlingRefusals
-    taken-as limit h = rw (le-leb limit 65535 h) refl
+module _ (line words : List ℕ) (asked : Settling) (a : asked ≡ settlingRead (bytesOf line)) where
+  ok-is : (c : Bool) → asked .ok ≡ c → settlingRead (bytesOf line) .ok ≡ c
+  ok-is c f = sym (ap (λ (q : Settling). q .ok) a) ∙ f
 
-    pub settle-taken : asked .ok ≡ true → (k : RowCount) (x : List ℕ) → k .0 ≡ steps (tableOf words) (asked .limit) → x ≡ rewritten words (withRows (tableOf words) (rowsSettled (tableOf words) (asked .limit))) → (settled.Steps k, x) ≡ settledBy line words
-    unfolding settledBy
-    settle-taken f k x g h =
-        let limit = settlingRead (bytesOf line) .limit in
-        let same : asked .limit ≡ limit = ap (λ (q : Settling). q .limit) a in
-        rw (sym e ∙ t, sym (ap (λ (q : Settling). q .ok) a) ∙ f)
-        (ap₂ (λ (n : ℕ) (w : List ℕ). (settled.Steps (record { 0 = n }), w)) (g ∙ ap (steps (tableOf words)) same) (h ∙ ap (λ (n : ℕ). rewritten words (withRows (tableOf words) (rowsSettled (tableOf words) n))) same)
-        ∙ sym (taken-as limit (limit-read (bytesOf line) (heard-bytes line))))
+  pub settle-misshapen : asked .ok ≡ false → (settled.Refused 1, words) ≡ settledOn line words
+  unfolding settledOn
+  settle-misshapen f = rw (ok-is false f) refl
+
+  taken-as : (limit : ℕ) → limit ≤ 65535 → settledAs words (meaning.settle (tableOf words) limit) ≡ (settled.Steps (record { 0 = steps (tableOf words) limit }), rewritten words (withRows (tableOf words) (rowsSettled (tableOf words) limit)))
+  unfolding settledAs meaning.settle refusalOfSettling settlingRefusals
+  taken-as limit h = rw (le-leb limit 65535 h) refl
+
+  pub settle-taken : asked .ok ≡ true → (k : RowCount) (x : List ℕ) → k .0 ≡ steps (tableOf words) (asked .limit) → x ≡ rewritten words (withRows (tableOf words) (rowsSettled (tableOf words) (asked .limit))) → (settled.Steps k, x) ≡ settledOn line words
+  unfolding settledOn
+  settle-taken f k x g h =
+      let limit = settlingRead (bytesOf line) .limit in
+      let same : asked .limit ≡ limit = ap (λ (q : Settling). q .limit) a in
+      rw (ok-is true f)
+      (ap₂ (λ (n : ℕ) (w : List ℕ). (settled.Steps (record { 0 = n }), w)) (g ∙ ap (steps (tableOf words)) same) (h ∙ ap (λ (n : ℕ). rewritten words (withRows (tableOf words) (rowsSettled (tableOf words) n))) same)
+      ∙ sym (taken-as limit (limit-read (bytesOf line) (heard-bytes line))))

@@ -42,19 +42,21 @@ unfoldable pub settledAs : List ℕ → meaning.Settled → Settled × List ℕ
 settledAs words (meaning.Settled.refused number) = (settled.Refused number, words)
 settledAs words (meaning.Settled.settled steps table) = (settled.Steps (record { 0 = steps }), rewritten words table)
 
--- "Settling passes 14, 1".
-unfoldable pub settledBy : List ℕ → List ℕ → Settled × List ℕ
-settledBy line words =
+-- "Settling passes 14, 1": on a table, and on any space.
+unfoldable pub settledOn : List ℕ → List ℕ → Settled × List ℕ
+settledOn line words =
     let asked = settlingRead (bytesOf line) in
-    pick (holdsTable words)
-    (pick (asked .ok) (settledAs words (meaning.settle (tableOf words) (asked .limit))) (settled.Refused 1, words))
-    (settled.Refused 14, words)
+    pick (asked .ok) (settledAs words (meaning.settle (tableOf words) (asked .limit))) (settled.Refused 1, words)
 
--- "A question passes 14, 1, 3, 12, 11": what it gets, and the list space.
-unfoldable pub repliedBy : List ℕ → List ℕ → List ℕ → Reply × List ℕ
-repliedBy line words out =
+unfoldable pub settledBy : List ℕ → List ℕ → Settled × List ℕ
+settledBy line words = pick (holdsTable words) (settledOn line words) (settled.Refused 14, words)
+
+-- "A question passes 14, 1, 3, 12, 11": what it gets, and the list space; on a table, and on any space.
+unfoldable pub repliedOn : List ℕ → List ℕ → List ℕ → Reply × List ℕ
+repliedOn line words out =
     let asked = questionRead (bytesOf line) in
     let reply = meaning.ask (tableOf words) (length out) (askedFrom (asked .object) (asked .question) (asked .value)) in
-    pick (holdsTable words)
-    (pick (asked .ok) (told reply, spaceAfter reply out) (replied.Refused 1, out))
-    (replied.Refused 14, out)
+    pick (asked .ok) (told reply, spaceAfter reply out) (replied.Refused 1, out)
+
+unfoldable pub repliedBy : List ℕ → List ℕ → List ℕ → Reply × List ℕ
+repliedBy line words out = pick (holdsTable words) (repliedOn line words out) (replied.Refused 14, out)

@@ -3,8 +3,9 @@ ghost use mathlib.Core.Path.{_≡_};
 ghost use lib.ListN.{length};
 ghost use Rattle.meaning.specs.Calls.{openTable};
 ghost use Rattle.layout.specs.Layout.{spaceFor};
+ghost use Rattle.checked.specs.Checked.{Checked};
 ghost use Rattle.ranges.specs.Headers.{headerOf};
-ghost use Rattle.calls.specs.Calls.{openedAs, openedBy, repliedBy, settledBy};
+ghost use Rattle.calls.specs.Calls.{openedAs, openedBy, repliedBy, repliedOn, settledBy, settledOn};
 use asks::Reply;
 use refusals::Header;
 use tags::RowCount;
@@ -59,18 +60,38 @@ pub fn open(space: &mut [u32], line: &[u8]) -> Opened
     Opened::Refused(MISSHAPEN)
 }
 
+// A settling line to a table that was checked.
+fn settle_line(space: &mut [u32], line: &[u8]) -> Settled
+    requires { ⌜ Checked (now space) ⌝ }
+    ensures { λ r. ⌜ (r, now (space .exit)) ≡ settledOn (now (line .entry)) (now (space .entry)) ⌝ }
+{
+    let asked = heard::settling(line);
+    if asked.ok {
+        return Settled::Steps(settles::settle_table(space, RowCount(asked.limit)));
+    }
+    Settled::Refused(MISSHAPEN)
+}
+
 // "Settling passes 14, 1".
 pub fn settle(space: &mut [u32], line: &[u8]) -> Settled
     ensures { λ r. ⌜ (r, now (space .exit)) ≡ settledBy (now (line .entry)) (now (space .entry)) ⌝ }
 {
     if rules::is_table(space) {
-        let asked = heard::settling(line);
-        if asked.ok {
-            return Settled::Steps(settles::settle_table(space, RowCount(asked.limit)));
-        }
-        return Settled::Refused(MISSHAPEN);
+        return settle_line(space, line);
     }
     Settled::Refused(NO_TABLE)
+}
+
+// A question to a table that was checked.
+fn ask_line(space: &[u32], line: &[u8], out: &mut [u32]) -> Reply
+    requires { ⌜ Checked (now space) ⌝ }
+    ensures { λ r. ⌜ (r, now (out .exit)) ≡ repliedOn (now (line .entry)) (now (space .entry)) (now (out .entry)) ⌝ }
+{
+    let asked = heard::question(line);
+    if asked.ok {
+        return asks::ask_table(space, asked.object, asked.question, asked.value, out);
+    }
+    Reply::Refused(MISSHAPEN)
 }
 
 // "A question passes 14, 1, 3, 12, 11": the table is only looked at, and a list goes into the lent space.
@@ -78,11 +99,7 @@ pub fn ask(space: &[u32], line: &[u8], out: &mut [u32]) -> Reply
     ensures { λ r. ⌜ (r, now (out .exit)) ≡ repliedBy (now (line .entry)) (now (space .entry)) (now (out .entry)) ⌝ }
 {
     if rules::is_table(space) {
-        let asked = heard::question(line);
-        if asked.ok {
-            return asks::ask_table(space, asked.object, asked.question, asked.value, out);
-        }
-        return Reply::Refused(MISSHAPEN);
+        return ask_line(space, line, out);
     }
     Reply::Refused(NO_TABLE)
 }
