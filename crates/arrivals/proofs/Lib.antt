@@ -1,0 +1,4 @@
+pub mod RowsAfter
+pub mod Putting
+pub mod Keys
+pub mod Arriving
