@@ -133,7 +133,7 @@ fn put_settled(s: &mut [u32], size: usize, count: RowCount, a: Arrival)
 
 // Puts the row that the arrival's kind keeps of it.
 fn put_arrival(s: &mut [u32], size: usize, count: RowCount, a: Arrival, v: &[u32])
-    requires { ⌜ Opened (now s) size (count .0) × (count .0 < capacityIn (now s)) × (length (now v) ≡ size) ⌝ }
+    requires { ⌜ (count .0 < capacityIn (now s)) × Opened (now s) size (count .0) × (length (now v) ≡ size) ⌝ }
     ensures { λ _. ⌜ now (s .exit) ≡ rewritten (now (s .entry)) (withRows (tableOf (now (s .entry))) (insertRow (rowFor (a .kind) (operationOf a (now (v .entry)))) (tableOf (now (s .entry)) .rows))) ⌝ }
 {
     if rows::is_kept(a.kind) {
@@ -152,7 +152,8 @@ fn arrive_rows(s: &mut [u32], size: usize, count: RowCount, a: Arrival, v: &[u32
     let left = table::drop_going(s, size, count, a, v);
     if gets {
         put_arrival(s, size, left, a, v);
-        return RowCount(left.0 + 1);
+        let more = left.0 + 1;
+        return RowCount(more);
     }
     left
 }

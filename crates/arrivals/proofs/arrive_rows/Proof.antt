@@ -15,10 +15,10 @@ drop-going-requires : tie.Need-drop-going-requires
 drop-going-requires c κs = search needs
 
 put-arrival-requires : tie.Need-put-arrival-requires
-put-arrival-requires c κs = (search dropped-opened, search row-fits, search needs)
+put-arrival-requires c κs = (search row-fits, search dropped-opened, search needs)
 
-add-t16 : tie.Need-add-t16
-add-t16 c = search left-fits
+add-more : tie.Need-add-more
+add-more c = search left-fits
 
 same-length : tie.Need-same-length
 same-length c = search needs
@@ -39,7 +39,7 @@ arrive-rows-spec =
     puts-row-requires
     drop-going-requires
     put-arrival-requires
-    add-t16
+    add-more
     same-length
     returns
     same-length-2
