@@ -2,3 +2,4 @@ pub mod RowsAfter
 pub mod Putting
 pub mod Keys
 pub mod Arriving
+pub mod Made

@@ -12,9 +12,21 @@ use Rattle.meaning.specs.Arrival.{rowsAfter, totalsAfter, sameValue}
 use Rattle.meaning.specs.Table.{Table, kindIn}
 use Rattle.layout.specs.Words.{pieces}
 use Rattle.layout.specs.Layout.{tableOf, rowOf}
+use Rattle.tags.specs.declared.Station.{Station}
 use Rattle.rows.specs.Arriving.{operationOf}
 use Rattle.rows.specs.declared.Arrival.{Arrival}
 use Rattle.table.specs.Changes.{Opened, entryBelowLimit}
+
+-- What arrives of these fields: an operation on an object of this kind.
+abbrev pub arrivalFrom : ℕ → ℕ → ℕ → ℕ → Station → Arrival
+arrivalFrom kind object code value sender = record {
+  kind = kind;
+  object = object;
+  code = code;
+  high = 0;
+  low = value;
+  sender = sender;
+}
 
 -- "rows of the same value": whether there is any among so many rows in words.
 unfoldable pub hasValue : Arrival → Vector → ℕ → ℕ → List ℕ → Bool

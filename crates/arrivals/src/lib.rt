@@ -6,16 +6,20 @@ ghost use Prim.Native.Nat.{_*_, _≤_, _<_};
 ghost use lib.ListN.{length};
 ghost use Rattle.meaning.specs.Arrival.{getsRow, rowsAfter};
 ghost use Rattle.meaning.specs.Rows.{insertRow, settledRow, unsettledRow};
+ghost use Rattle.meaning.specs.Table.{kindIn};
 ghost use Rattle.meaning.specs.Calls.{afterArrival, withRows};
-ghost use Rattle.layout.specs.Layout.{capacityIn, objectsIn, rewritten, rowWidth, tableOf, withTotals};
+ghost use Rattle.layout.specs.Layout.{capacityIn, clockAt, Laid, objectsIn, rewritten, rowWidth, tableOf, withTotals};
 ghost use Rattle.rows.specs.Arriving.{operationOf, puts, rowFor};
 ghost use Rattle.table.specs.Changes.{Opened};
-ghost use Rattle.arrivals.specs.Arrives.{Arrives, hasRoom, hasValue, totalsWith};
+ghost use Rattle.arrivals.specs.Arrives.{Arrives, arrivalFrom, hasRoom, hasValue, totalsWith};
 use layout::CAPACITY_AT;
 use layout::CLOCK_AT;
 use layout::KEY;
+use layout::KINDS_AT;
+use layout::OBJECTS_AT;
 use rows::Arrival;
 use tags::RowCount;
+use tags::Station;
 
 const ADDS: u32 = 1;
 
@@ -36,6 +40,25 @@ const UNSETTLED: u32 = 1;
 const NO_TAG: u32 = 0;
 
 const MOST_STATIONS: usize = 16;
+
+// Values of 32 bits have no high word.
+const NO_HIGH: u32 = 0;
+
+// What arrives of an operation on an object of this table: its kind is looked up, and its value is one word.
+pub fn arrival_of(s: &[u32], object: u32, code: u32, value: u32, sender: Station) -> Arrival
+    requires { ⌜ Laid (now s) × (clockAt ≤ length (now s)) ⌝ }
+    ensures { λ r. ⌜ r ≡ arrivalFrom (kindIn (tableOf (now (s .entry)) .header) object) object code value sender ⌝ }
+{
+    let end = KINDS_AT + tags::wide(s[OBJECTS_AT]);
+    Arrival {
+        kind: allowing::kind_of(&s[KINDS_AT..end], object),
+        object: object,
+        code: code,
+        high: NO_HIGH,
+        low: value,
+        sender: sender,
+    }
+}
 
 // Whether any row is of the arrival's object and value.
 fn has_value(rows: &[u32], width: usize, count: RowCount, a: Arrival, v: &[u32]) -> bool
