@@ -41,7 +41,7 @@ const TWO_PHASE_SET: u32 = 4;
 const MULTI_VALUE_REGISTER: u32 = 7;
 
 // Whether a row is of the arrival's object and value.
-fn same_value(row: &[u32], a: Arrival, v: &[u32]) -> bool
+pub fn same_value(row: &[u32], a: Arrival, v: &[u32]) -> bool
     requires { ⌜ length (now row) ≡ rowWidth (length (now v)) ⌝ }
     ensures { λ r. ⌜ r ≡ sameValue (operationOf a (now (v .entry))) (rowOf (now (row .entry))) ⌝ }
 {
@@ -89,7 +89,7 @@ fn takes(row: &[u32], a: Arrival, v: &[u32]) -> bool
 }
 
 // Whether objects of this kind are counters, which keep no rows.
-fn is_counter(kind: u32) -> bool
+pub fn is_counter(kind: u32) -> bool
     ensures { λ r. ⌜ r ≡ isCounter kind ⌝ }
 {
     if kind == GROW_COUNTER {
@@ -99,7 +99,7 @@ fn is_counter(kind: u32) -> bool
 }
 
 // Whether objects of this kind keep settled rows only.
-fn is_kept(kind: u32) -> bool
+pub fn is_kept(kind: u32) -> bool
     ensures { λ r. ⌜ r ≡ isKept kind ⌝ }
 {
     if kind == GROW_SET {

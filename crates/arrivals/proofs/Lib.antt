@@ -1,0 +1,5 @@
+pub mod RowsAfter
+pub mod Putting
+pub mod Keys
+pub mod Arriving
+pub mod Made
