@@ -1,8 +1,9 @@
 -- The calls: what each answers to a line, and the space afterwards.
 use mathlib.Core.List.{List, _++_}
 use Prim.Native.Nat.{ℕ}
-use lib.ListN.{drop, length}
+use lib.ListN.{drop, length, take}
 use Rattle.meaning.specs.Table.{Header}
+use Rattle.meaning.specs.Refusals.{Frame}
 use Rattle.meaning.specs.Calls as meaning
 use Rattle.layout.specs.Layout.{holdsTable, tableOf, rewritten, spaceFor, wordsOf}
 use Rattle.ranges.specs.Headers.{headerOf}
@@ -11,10 +12,13 @@ use Rattle.asks.specs.declared.Reply.{Reply}
 use Rattle.asks.specs.declared.Reply.the-variants as replied
 use Rattle.asks.specs.Replies.{told, spaceAfter}
 use Rattle.hexes.specs.Choice.{pick}
-use Rattle.lines.specs.Named.{openingRead, questionRead, settlingRead}
+use Rattle.lines.specs.declared.Operation.{Operation}
+use Rattle.lines.specs.Named.{openingRead, operationRead, questionRead, settlingRead}
 use Rattle.heard.specs.Hearing.{bytesOf}
 use Rattle.calls.specs.declared.Opened.{Opened}
 use Rattle.calls.specs.declared.Opened.the-variants as opened
+use Rattle.calls.specs.declared.Received.{Received}
+use Rattle.calls.specs.declared.Received.the-variants as received
 use Rattle.calls.specs.declared.Settled.{Settled}
 use Rattle.calls.specs.declared.Settled.the-variants as settled
 
@@ -50,6 +54,33 @@ settledOn line words =
 
 unfoldable pub settledBy : List ℕ → List ℕ → Settled × List ℕ
 settledBy line words = pick (holdsTable words) (settledOn line words) (settled.Refused 14, words)
+
+-- The frame that an operation line says: of its vector as many entries as its N.
+unfoldable pub frameOf : Operation → Frame
+frameOf f = record {
+  size = f .stations;
+  operation = record {
+    object = f .object;
+    code = f .code;
+    value = f .value;
+    sender = f .sender;
+    vector = take (f .stations) (f .vector);
+  };
+}
+
+-- "A refusal returns its number" and changes nothing; an accepted frame changes the table.
+unfoldable pub receivedAs : List ℕ → meaning.Outcome → Received × List ℕ
+receivedAs words (meaning.Outcome.refused number) = (received.Refused number, words)
+receivedAs words (meaning.Outcome.accepted u table) = (received.Accepted, rewritten words table)
+
+-- "A frame passes 14, 1 to 7, 8": on a table, and on any space.
+unfoldable pub receivedOn : List ℕ → List ℕ → Received × List ℕ
+receivedOn line words =
+    let f = operationRead (bytesOf line) in
+    pick (f .ok) (receivedAs words (meaning.receive (tableOf words) (frameOf f))) (received.Refused 1, words)
+
+unfoldable pub receivedBy : List ℕ → List ℕ → Received × List ℕ
+receivedBy line words = pick (holdsTable words) (receivedOn line words) (received.Refused 14, words)
 
 -- "A question passes 14, 1, 3, 12, 11": what it gets, and the list space; on a table, and on any space.
 unfoldable pub repliedOn : List ℕ → List ℕ → List ℕ → Reply × List ℕ

@@ -1,13 +1,15 @@
 // The public calls over a lent table space and a lent line. Each tries its refusals in 01's order, and a refusal changes nothing.
 ghost use mathlib.Core.Path.{_≡_};
-ghost use lib.ListN.{length};
-ghost use Rattle.meaning.specs.Calls.{openTable};
-ghost use Rattle.layout.specs.Layout.{spaceFor};
+ghost use Prim.Native.Nat.{_≤_};
+ghost use lib.ListN.{length, take};
+ghost use Rattle.meaning.specs.Calls.{openTable, receive};
+ghost use Rattle.layout.specs.Layout.{spaceFor, tableOf};
 ghost use Rattle.checked.specs.Checked.{Checked};
 ghost use Rattle.ranges.specs.Headers.{headerOf};
-ghost use Rattle.calls.specs.Calls.{openedAs, openedBy, repliedBy, repliedOn, settledBy, settledOn};
+ghost use Rattle.calls.specs.Calls.{frameOf, openedAs, openedBy, receivedAs, receivedBy, receivedOn, repliedBy, repliedOn, settledBy, settledOn};
 use asks::Reply;
 use refusals::Header;
+use refusals::Sent;
 use tags::RowCount;
 use tags::Station;
 
@@ -20,6 +22,12 @@ const MISSHAPEN: u32 = 1;
 pub enum Opened {
     Refused(u32),
     Fresh,
+}
+
+// What a frame gets: a refusal's number, or nothing but that it is accepted.
+pub enum Received {
+    Refused(u32),
+    Accepted,
 }
 
 // What a settling call answers: a refusal's number, or how many steps it took.
@@ -58,6 +66,51 @@ pub fn open(space: &mut [u32], line: &[u8]) -> Opened
         return open_with(space, asked, &bytes[lines::KINDS_PLACE..n]);
     }
     Opened::Refused(MISSHAPEN)
+}
+
+// A frame that was read from its line.
+fn receive_read(space: &mut [u32], f: lines::Operation) -> Received
+    requires { ⌜ Checked (now space) × (f .stations ≤ 16) × (length (take (f .stations) (f .vector)) ≡ f .stations) ⌝ }
+    ensures { λ r. ⌜ (r, now (space .exit)) ≡ receivedAs (now (space .entry)) (receive (tableOf (now (space .entry))) (frameOf f)) ⌝ }
+{
+    if f.stations != space[layout::SIZE_AT] {
+        return Received::Refused(MISSHAPEN);
+    }
+    let sent = Sent {
+        sender: Station(f.sender),
+        object: f.object,
+        code: f.code,
+        value: f.value,
+    };
+    let end = tags::wide(f.stations);
+    let vector = f.vector;
+    let refusal = receives::receive_frame(space, sent, &vector[0..end]);
+    if refusal != refusals::NONE {
+        return Received::Refused(refusal);
+    }
+    Received::Accepted
+}
+
+// A frame's line to a table that was checked.
+fn receive_line(space: &mut [u32], line: &[u8]) -> Received
+    requires { ⌜ Checked (now space) ⌝ }
+    ensures { λ r. ⌜ (r, now (space .exit)) ≡ receivedOn (now (line .entry)) (now (space .entry)) ⌝ }
+{
+    let f = heard::operation(line);
+    if f.ok {
+        return receive_read(space, f);
+    }
+    Received::Refused(MISSHAPEN)
+}
+
+// "A frame passes 14, 1 to 7, 8".
+pub fn receive(space: &mut [u32], line: &[u8]) -> Received
+    ensures { λ r. ⌜ (r, now (space .exit)) ≡ receivedBy (now (line .entry)) (now (space .entry)) ⌝ }
+{
+    if rules::is_table(space) {
+        return receive_line(space, line);
+    }
+    Received::Refused(NO_TABLE)
 }
 
 // A settling line to a table that was checked.
