@@ -71,9 +71,9 @@ pub fn issue_number(s: &[u32], object: u32, code: u32, value: u32) -> u32
     if early != NONE {
         return early;
     }
-    let a = arrivals::arrival_of(s, object, code, value, own);
+    let offered = arrivals::arrival_of(s, object, code, value, own);
     let next = next_vector(s);
-    if arrivals::has_room(s, size, count, a, &next[0..size]) {
+    if arrivals::has_room(s, size, count, offered, &next[0..size]) {
         return NONE;
     }
     FULL
@@ -87,7 +87,7 @@ pub fn take_local(s: &mut [u32], object: u32, code: u32, value: u32)
     let size = tags::wide(s[SIZE_AT]);
     let count = RowCount(s[COUNT_AT]);
     let own = Station(s[OWN_AT]);
-    let a = arrivals::arrival_of(s, object, code, value, own);
+    let issued = arrivals::arrival_of(s, object, code, value, own);
     let next = next_vector(s);
-    arrivals::arrive(s, size, count, a, &next[0..size]);
+    arrivals::arrive(s, size, count, issued, &next[0..size]);
 }
