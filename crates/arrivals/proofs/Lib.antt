@@ -3,3 +3,4 @@ pub mod Putting
 pub mod Keys
 pub mod Arriving
 pub mod Made
+pub mod Chain

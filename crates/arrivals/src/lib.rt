@@ -21,6 +21,9 @@ use rows::Arrival;
 use tags::RowCount;
 use tags::Station;
 
+// The refusal of an operation for which there is no room.
+pub const FULL: u32 = 8;
+
 const ADDS: u32 = 1;
 
 const REMOVES: u32 = 2;
@@ -39,7 +42,8 @@ const UNSETTLED: u32 = 1;
 // What stands for the sender and the number of a settled row, which has no tag.
 const NO_TAG: u32 = 0;
 
-const MOST_STATIONS: usize = 16;
+// A group has at most so many stations.
+pub const MOST_STATIONS: usize = 16;
 
 // Values of 32 bits have no high word.
 const NO_HIGH: u32 = 0;

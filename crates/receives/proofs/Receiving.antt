@@ -1,7 +1,7 @@
 -- The refusals of a frame in a table's words, and what an accepted one leaves.
 use mathlib.Core.Path.{_≡_, refl, sym, ap, _∙_}
 use mathlib.Core.Bool.{Bool, true, false, not, cond}
-use mathlib.Core.List.{List, [], _∷_, _++_}
+use mathlib.Core.List.{List}
 use Prim.Native.Nat.{ℕ, _+_, _-_, _<_}
 use native.Mathlib.Omega.{arith}
 use borrow.Author.Tests.{eq-eqb, ne-eqb, le-leb, ltb-true}
@@ -12,9 +12,8 @@ use Rattle.meaning.specs.Order.{Vector, entryLimit}
 use Rattle.meaning.specs.Operations.{Operation, numberOf}
 use Rattle.meaning.specs.Arrival.{rowsAfter}
 use Rattle.meaning.specs.Table.{Header, Table, kindIn}
-use Rattle.meaning.specs.Refusals.{Refusal, _when_, firstOf, Frame, frameRefusals, roomFor, arrivalRefusals, refusalOfFrame}
+use Rattle.meaning.specs.Refusals.{firstOf, Frame, frameRefusals, roomFor, arrivalRefusals, refusalOfFrame}
 use Rattle.meaning.specs.Calls.{accepted, outcome, receive, afterArrival}
-use Rattle.meaning.proofs.Tests.{cases, and-left, and-right}
 use Rattle.meaning.proofs.Acceptance.{FrameAccepted, frame-accepted, next-number}
 use Rattle.meaning.proofs.TableFacts.{facts, every-place}
 use Rattle.layout.specs.Words.{pieces}
@@ -30,20 +29,10 @@ use Rattle.checked.specs.Checked.{Checked}
 use Rattle.arrivals.specs.Arrives.{Arrives, arrivalFrom, hasRoom}
 use Rattle.arrivals.proofs.Arriving.{opened-again, spells}
 use Rattle.arrivals.proofs.Made.{operation-is}
+use Rattle.arrivals.proofs.Chain.{numbered, chain-then}
 use Rattle.refusals.specs.Fields.{frameFrom}
 use Rattle.refusals.specs.declared.Sent.{Sent}
 use Rattle.receives.specs.Receiving.{outcomeIn, receivedBy}
-
--- a chain goes on where nothing was given so far
-numbered : Refusal → Bool
-numbered refusal = ltb 0 (refusal .number)
-
-first-more : (chain more : List Refusal) → every numbered chain ≡ true → firstOf (chain ++ more) ≡ cond (eqb (firstOf chain) 0) (firstOf more) (firstOf chain)
-unfolding numbered
-first-more [] more h = refl
-first-more (refusal ∷ chain) more h = cases (refusal .given)
-    (λ g. rw (g, ne-eqb (refusal .number) 0 (λ z. let some = ltb-true 0 (refusal .number) (and-left (ltb 0 (refusal .number)) (every numbered chain) h) in omega arith)) refl)
-    (λ g. rw g (first-more chain more (and-right (ltb 0 (refusal .number)) (every numbered chain) h)))
 
 -- what asks the header, D and L alone, from the words that are lent
 pub early-is : (s : List ℕ) (n m : ℕ) (f : Sent) (v : Vector) (r : ℕ) → n ≡ sizeIn s → m ≡ objectsIn s →
@@ -78,10 +67,7 @@ module _ (table : Table) (f : Sent) (v : Vector) (r : ℕ) (e : r ≡ firstOf (f
 
   number-is : number ≡ cond (eqb r 0) (cond (not (roomFor table (frameFrom f v .operation))) 8 0) r
   unfolding refusalOfFrame arrivalRefusals
-  number-is = first-more (frameRefusals (table .header) (table .clock) (table .last) (frameFrom f v)) ((8 when not (roomFor table (frameFrom f v .operation))) ∷ []) all-numbered ∙ rw (sym e) refl
-    where
-      all-numbered : every numbered (frameRefusals (table .header) (table .clock) (table .last) (frameFrom f v)) ≡ true
-      all-numbered = numbered-chain (table .header) (table .clock) (table .last) (frameFrom f v)
+  number-is = chain-then (frameRefusals (table .header) (table .clock) (table .last) (frameFrom f v)) (not (roomFor table (frameFrom f v .operation))) (numbered-chain (table .header) (table .clock) (table .last) (frameFrom f v)) ∙ rw (sym e) refl
 
   pub number-early : (r ≡ 0 → ⊥) → r ≡ number
   number-early d = sym (number-is ∙ rw (ne-eqb r 0 d) refl)

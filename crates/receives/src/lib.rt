@@ -7,6 +7,7 @@ ghost use Rattle.layout.specs.Layout.{rewritten, sizeIn, tableOf};
 ghost use Rattle.checked.specs.Checked.{Checked};
 ghost use Rattle.refusals.specs.Fields.{frameFrom};
 ghost use Rattle.receives.specs.Receiving.{receivedBy};
+use arrivals::FULL;
 use layout::CAPACITY_AT;
 use layout::CLOCK_AT;
 use layout::COUNT_AT;
@@ -19,9 +20,6 @@ use refusals::NONE;
 use refusals::Sent;
 use tags::RowCount;
 use tags::Station;
-
-// The refusal of a frame for which there is no room.
-pub const FULL: u32 = 8;
 
 // The first refusal of 1 to 7, which ask the header, D and L alone.
 fn early_number(s: &[u32], size: usize, f: Sent, v: &[u32]) -> u32
