@@ -7,16 +7,14 @@ use native.Mathlib.Omega.{arith}
 use borrow.Author.Tests.{ne-eqb, lt-ltb, le-ltb, ltb-true}
 use mir.Val.{Fits}
 use mir.Syntax.{w32}
-use lib.Dec.{eqb}
 use lib.IntN.{ℤ}
 use lib.ListN.{length, getD, take, drop, length-drop}
 use lib.Seq.{length-take-le}
 use Rattle.meaning.specs.Rows.{countByRows}
 use Rattle.meaning.specs.Table.{Header, Table, kindIn}
-use Rattle.meaning.specs.Questions.{Asked, Source, total, list, fits, byRows, answerFrom}
+use Rattle.meaning.specs.Questions.{Asked, Source, total, flag, count, holds, fits, byRows, answerFrom}
 use Rattle.meaning.specs.Refusals.{_when_, firstOf, declared, wellAsked, listTooLong, askedRefusals, questionRefusals}
 use Rattle.meaning.specs.Calls.{Reply, refused, tooLong, answered, replyOf, askOf, ask}
-use Rattle.meaning.proofs.Tests.{cases}
 use Rattle.layout.specs.Layout.{tableOf, objectsIn, sizeIn, countIn, totalWords, totalOfWords}
 use Rattle.layout.proofs.RowWords.{high-of, low-of}
 use Rattle.layout.proofs.Spelling.{code-read}
@@ -27,7 +25,7 @@ use Rattle.allowing.specs.Asking.{askedFrom}
 use Rattle.checked.specs.Checked.{Checked}
 use Rattle.refusals.specs.Fields.{headerOfKinds}
 use Rattle.refusals.proofs.Chains.{asked-by-kinds}
-use Rattle.asks.specs.Replies.{toldAnswer, told, writtenTo, spaceAfter, listReply}
+use Rattle.asks.specs.Replies.{replied, listReply}
 use Rattle.asks.specs.declared.Reply as code
 use Rattle.asks.specs.declared.Reply.the-variants as says
 
@@ -52,31 +50,13 @@ module _ (s : List ℕ) (o : ℕ) (k : RowCount) (e : k .0 ≡ byRows (tableOf s
   unfolding byRows countByRows
   counted = e
 
-  module _ (h : length out < w) where
-    is-too-long : listReply (tableOf s) o (length out) ≡ tooLong (length values)
-    unfolding listReply
-    is-too-long = rw (lt-ltb (length out) (length values) (omega (arith, counted))) refl
+  pub too-long-replied : length out < w → (says.TooLong k, out) ≡ replied (listReply (tableOf s) o (length out)) out
+  unfolding listReply replied
+  too-long-replied h = rw (lt-ltb (length out) (length values) (omega (arith, counted)), sym counted) refl
 
-    pub too-long-told : says.TooLong k ≡ told (listReply (tableOf s) o (length out))
-    unfolding told
-    too-long-told = rw (is-too-long, sym counted) refl
-
-    pub too-long-left : out ≡ spaceAfter (listReply (tableOf s) o (length out)) out
-    unfolding spaceAfter
-    too-long-left = rw is-too-long refl
-
-  module _ (h : w ≤ length out) where
-    is-listed : listReply (tableOf s) o (length out) ≡ answered (list values)
-    unfolding listReply
-    is-listed = rw (le-ltb (length out) (length values) (omega (arith, counted))) refl
-
-    pub list-told : says.List k ≡ told (listReply (tableOf s) o (length out))
-    unfolding told toldAnswer
-    list-told = rw (is-listed, sym counted) refl
-
-    pub list-left : (x : List ℕ) → x ≡ values ++ drop (length values) out → x ≡ spaceAfter (listReply (tableOf s) o (length out)) out
-    unfolding spaceAfter writtenTo
-    list-left x q = q ∙ rw is-listed refl
+  pub list-replied : w ≤ length out → (x : List ℕ) → x ≡ values ++ drop (length values) out → (says.List k, x) ≡ replied (listReply (tableOf s) o (length out)) out
+  unfolding listReply replied
+  list-replied h x q = rw (le-ltb (length out) (length values) (omega (arith, counted)), q, sym counted) refl
 
 -- the chain of a question: 11 behind 1, 3 and 12
 module _ (source : Source) (asked : Asked) where
@@ -113,14 +93,6 @@ module _ (header : Header) (source : Source) (room : ℕ) (asked : Asked) where
   unfolding askedRefusals
   is-declared e = chain-declared (not (wellAsked asked)) (declared header (asked .object)) (not (fits (asked .question) (kindIn header (asked .object)))) e
 
--- only a list is written
-module _ (source : Source) (o question value : ℕ) (n : question ≡ 3 → ⊥) where
-  no-list : (out : List ℕ) → writtenTo out (answerFrom source (askedFrom o question value)) ≡ out
-  unfolding writtenTo answerFrom
-  no-list out = cases (eqb question 1) (λ a. rw a refl)
-      (λ a. rw a (cases (eqb question 2) (λ b. rw b refl)
-      (λ b. rw (b, ne-eqb question 3 n) (cases (eqb question 4) (λ c. rw c refl) (λ c. rw c refl)))))
-
 -- a question to a table
 module _ (s : List ℕ) (K : Checked s) (object question value n : ℕ) (en : n ≡ objectsIn s) (refusal : ℕ) (er : refusal ≡ firstOf (askedRefusals (headerOfKinds (take (7 + n - 7) (drop 7 s))) (askedFrom object question value))) (out : List ℕ) where
   abbrev t : Table
@@ -136,18 +108,9 @@ module _ (s : List ℕ) (K : Checked s) (object question value n : ℕ) (en : n 
   first-is : firstOf (askedRefusals (t .header) (askedFrom object question value)) ≡ refusal
   first-is = rw (asked-by-kinds (t .header) (askedFrom object question value), sym kinds-are) (sym er)
 
-  module _ (g : refusal ≡ 0 → ⊥) where
-    is-refused : reply ≡ refused refusal
-    unfolding ask
-    is-refused = first-refuses (t .header) (byRows t) (length out) (askedFrom object question value) (λ e. g (sym first-is ∙ e)) ∙ ap refused first-is
-
-    pub refused-told : says.Refused refusal ≡ told reply
-    unfolding told
-    refused-told = rw is-refused refl
-
-    pub refused-left : out ≡ spaceAfter reply out
-    unfolding spaceAfter
-    refused-left = rw is-refused refl
+  pub refused-replied : (refusal ≡ 0 → ⊥) → (says.Refused refusal, out) ≡ replied reply out
+  unfolding ask replied
+  refused-replied g = sym (ap (λ (r : Reply). replied r out) (first-refuses (t .header) (byRows t) (length out) (askedFrom object question value) (λ e. g (sym first-is ∙ e)) ∙ ap refused first-is))
 
   module _ (z : refusal ≡ 0) where
     pub object-declared : object < objectsIn s
@@ -160,50 +123,33 @@ module _ (s : List ℕ) (K : Checked s) (object question value n : ℕ) (en : n 
     unfolding ask
     is-passed = none-refuses (t .header) (byRows t) (length out) (askedFrom object question value) (first-is ∙ z)
 
-    -- a list
-    module _ (q : question ≡ 3) where
-      is-list : reply ≡ listReply t object (length out)
-      unfolding listTooLong answerFrom listReply
-      is-list = is-passed ∙ rw q refl
+    pub total-replied : question ≡ 1 → (x y : ℕ) → x ∷ y ∷ [] ≡ totalWords (byRows t .totalAt object) → (says.Total x y, out) ≡ replied reply out
+    unfolding replied listTooLong answerFrom
+    total-replied q x y e =
+        let given : reply ≡ answered (total (byRows t .totalAt object)) = is-passed ∙ rw q refl in
+        ap (λ (l : List ℕ). (says.Total (getD l 0 0) (getD l 1 0), out)) e ∙ sym (ap (λ (r : Reply). replied r out) given)
 
-      pub list-asked-told : (r : code.Reply) → r ≡ told (listReply t object (length out)) → r ≡ told reply
-      list-asked-told r e = e ∙ ap told (sym is-list)
+    pub flag-replied : question ≡ 2 → (b : Bool) → b ≡ byRows t .inAt object 0 → (says.Flag b, out) ≡ replied reply out
+    unfolding replied listTooLong answerFrom
+    flag-replied q b e =
+        let given : reply ≡ answered (flag (byRows t .inAt object 0)) = is-passed ∙ rw q refl in
+        ap (λ (on : Bool). (says.Flag on, out)) e ∙ sym (ap (λ (r : Reply). replied r out) given)
 
-      pub list-asked-left : (x : List ℕ) → x ≡ spaceAfter (listReply t object (length out)) out → x ≡ spaceAfter reply out
-      list-asked-left x e = e ∙ ap (λ (r : Reply). spaceAfter r out) (sym is-list)
+    pub list-asked : question ≡ 3 → (r : code.Reply) (x : List ℕ) → (r, x) ≡ replied (listReply t object (length out)) out → (r, x) ≡ replied reply out
+    unfolding listTooLong answerFrom listReply
+    list-asked q r x e = e ∙ sym (ap (λ (r : Reply). replied r out) (is-passed ∙ rw q refl))
 
-    -- any other question
-    module _ (g : question ≡ 3 → ⊥) where
-      is-answered : reply ≡ answered (answerFrom (byRows t) (askedFrom object question value))
-      unfolding listTooLong
-      is-answered = is-passed ∙ rw (ne-eqb question 3 g) refl
+    pub count-replied : question ≡ 4 → (k : RowCount) → k .0 ≡ byRows t .countAt object → (says.Count k, out) ≡ replied reply out
+    unfolding replied listTooLong answerFrom
+    count-replied q k e =
+        let given : reply ≡ answered (count (byRows t .countAt object)) = is-passed ∙ rw q refl in
+        ap (λ (m : ℕ). (says.Count (record { 0 = m }), out)) e ∙ sym (ap (λ (r : Reply). replied r out) given)
 
-      pub left-alone : out ≡ spaceAfter reply out
-      unfolding spaceAfter
-      left-alone = sym (ap (λ (r : Reply). spaceAfter r out) is-answered ∙ no-list (byRows t) object question value g out)
+    module _ (n1 : question ≡ 1 → ⊥) (n2 : question ≡ 2 → ⊥) (n3 : question ≡ 3 → ⊥) (n4 : question ≡ 4 → ⊥) where
+      is-held : reply ≡ answered (holds (byRows t .inAt object value))
+      unfolding listTooLong answerFrom
+      is-held = is-passed ∙ rw (ne-eqb question 1 n1, ne-eqb question 2 n2, ne-eqb question 3 n3, ne-eqb question 4 n4) refl
 
-      is-told : told reply ≡ toldAnswer (answerFrom (byRows t) (askedFrom object question value))
-      unfolding told
-      is-told = ap told is-answered
-
-    pub total-told : question ≡ 1 → (x y : ℕ) → x ∷ y ∷ [] ≡ totalWords (byRows t .totalAt object) → says.Total x y ≡ told reply
-    unfolding toldAnswer answerFrom
-    total-told q x y e = ap (λ (l : List ℕ). says.Total (getD l 0 0) (getD l 1 0)) e ∙ sym (is-told (omega arith) ∙ rw q refl)
-
-    pub total-left : question ≡ 1 → out ≡ spaceAfter reply out
-    total-left q = left-alone (omega arith)
-
-    pub flag-told : question ≡ 2 → (b : Bool) → b ≡ byRows t .inAt object 0 → says.Flag b ≡ told reply
-    unfolding toldAnswer answerFrom
-    flag-told q b e = ap says.Flag e ∙ sym (is-told (omega arith) ∙ rw q refl)
-
-    pub flag-left : question ≡ 2 → out ≡ spaceAfter reply out
-    flag-left q = left-alone (omega arith)
-
-    pub count-told : question ≡ 4 → (k : RowCount) → k .0 ≡ byRows t .countAt object → says.Count k ≡ told reply
-    unfolding toldAnswer answerFrom
-    count-told q k e = ap (λ (m : ℕ). says.Count (record { 0 = m })) e ∙ sym (is-told (omega arith) ∙ rw q refl)
-
-    pub holds-told : (question ≡ 1 → ⊥) → (question ≡ 2 → ⊥) → (question ≡ 3 → ⊥) → (question ≡ 4 → ⊥) → (b : Bool) → b ≡ byRows t .inAt object value → says.Holds b ≡ told reply
-    unfolding toldAnswer answerFrom
-    holds-told n1 n2 n3 n4 b e = ap says.Holds e ∙ sym (is-told n3 ∙ rw (ne-eqb question 1 n1, ne-eqb question 2 n2, ne-eqb question 3 n3, ne-eqb question 4 n4) refl)
+      pub holds-replied : (b : Bool) → b ≡ byRows t .inAt object value → (says.Holds b, out) ≡ replied reply out
+      unfolding replied
+      holds-replied b e = ap (λ (there : Bool). (says.Holds there, out)) e ∙ sym (ap (λ (r : Reply). replied r out) is-held)

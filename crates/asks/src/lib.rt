@@ -8,7 +8,7 @@ ghost use Rattle.meaning.specs.Calls.{ask};
 ghost use Rattle.layout.specs.Layout.{objectsIn, tableOf, totalWords};
 ghost use Rattle.allowing.specs.Asking.{askedFrom};
 ghost use Rattle.checked.specs.Checked.{Checked};
-ghost use Rattle.asks.specs.Replies.{listReply, spaceAfter, told};
+ghost use Rattle.asks.specs.Replies.{listReply, replied};
 use layout::KINDS_AT;
 use layout::OBJECTS_AT;
 use layout::TOTAL_WORDS;
@@ -42,7 +42,7 @@ pub fn total_of(s: &[u32], object: u32) -> Total
 // The list of an object, where it is asked for and nothing but its length can refuse it. It is counted first, so that 11 leaves the space alone.
 fn list_reply(s: &[u32], object: u32, out: &mut [u32]) -> Reply
     requires { ⌜ Checked (now s) ⌝ }
-    ensures { λ r. ⌜ (r ≡ told (listReply (tableOf (now (s .entry))) object (length (now (out .entry))))) × (now (out .exit) ≡ spaceAfter (listReply (tableOf (now (s .entry))) object (length (now (out .entry)))) (now (out .entry))) ⌝ }
+    ensures { λ r. ⌜ (r, now (out .exit)) ≡ replied (listReply (tableOf (now (s .entry))) object (length (now (out .entry)))) (now (out .entry)) ⌝ }
 {
     let count = listing::count_in(s, object);
     if out.len() < tags::wide(count.0) {
@@ -55,7 +55,7 @@ fn list_reply(s: &[u32], object: u32, out: &mut [u32]) -> Reply
 // A question to a table: refusals 1, 3 and 12, then 11, or its answer.
 pub fn ask_table(s: &[u32], object: u32, question: u32, value: u32, out: &mut [u32]) -> Reply
     requires { ⌜ Checked (now s) ⌝ }
-    ensures { λ r. ⌜ (r ≡ told (ask (tableOf (now (s .entry))) (length (now (out .entry))) (askedFrom object question value))) × (now (out .exit) ≡ spaceAfter (ask (tableOf (now (s .entry))) (length (now (out .entry))) (askedFrom object question value)) (now (out .entry))) ⌝ }
+    ensures { λ r. ⌜ (r, now (out .exit)) ≡ replied (ask (tableOf (now (s .entry))) (length (now (out .entry))) (askedFrom object question value)) (now (out .entry)) ⌝ }
 {
     let end = KINDS_AT + tags::wide(s[OBJECTS_AT]);
     let refusal = refusals::question_refusal(&s[KINDS_AT..end], object, question, value);

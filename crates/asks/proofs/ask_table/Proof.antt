@@ -1,5 +1,5 @@
 use borrow.Author.Needs.{needs}
-use Rattle.asks.proofs.Asked.{refused-told, refused-left, object-declared, list-asked-told, list-asked-left, left-alone, total-told, total-left, flag-told, flag-left, count-told, holds-told}
+use Rattle.asks.proofs.Asked.{refused-replied, object-declared, total-replied, flag-replied, list-asked, count-replied, holds-replied}
 use Rattle.asks.proofs.ask_table.Statement.{statement}
 use Rattle.asks.proofs.ask_table.Tie as tie
 
@@ -25,19 +25,19 @@ question-refusal-requires : tie.Need-question-refusal-requires
 question-refusal-requires c κs = search needs
 
 returns : tie.Need-returns
-returns c = (search refused-told, search refused-left)
+returns c = search refused-replied
 
 total-of-requires : tie.Need-total-of-requires
 total-of-requires c κs = (search needs, search object-declared)
 
 returns-2 : tie.Need-returns-2
-returns-2 c = (search total-told, search total-left)
+returns-2 c = search total-replied
 
 is-in-requires : tie.Need-is-in-requires
 is-in-requires c κs = search needs
 
 returns-3 : tie.Need-returns-3
-returns-3 c = (search flag-told, search flag-left)
+returns-3 c = search flag-replied
 
 list-reply-requires : tie.Need-list-reply-requires
 list-reply-requires c κs = search needs
@@ -46,19 +46,19 @@ same-length : tie.Need-same-length
 same-length c = search needs
 
 returns-4 : tie.Need-returns-4
-returns-4 c = (search list-asked-told, search list-asked-left)
+returns-4 c = search list-asked
 
 count-in-requires : tie.Need-count-in-requires
 count-in-requires c κs = search needs
 
 returns-5 : tie.Need-returns-5
-returns-5 c = (search count-told, search left-alone)
+returns-5 c = search count-replied
 
 is-in-requires-2 : tie.Need-is-in-requires-2
 is-in-requires-2 c κs = search needs
 
 returns-6 : tie.Need-returns-6
-returns-6 c = (search holds-told, search left-alone)
+returns-6 c = search holds-replied
 
 pub ask-table-spec : {M : Type 1} → statement M
 ask-table-spec =

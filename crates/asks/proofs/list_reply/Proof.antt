@@ -1,5 +1,5 @@
 use borrow.Author.Needs.{needs}
-use Rattle.asks.proofs.Asked.{too-long-told, too-long-left, list-told, list-left}
+use Rattle.asks.proofs.Asked.{too-long-replied, list-replied}
 use Rattle.asks.proofs.list_reply.Statement.{statement}
 use Rattle.asks.proofs.list_reply.Tie as tie
 
@@ -10,7 +10,7 @@ wide-requires : tie.Need-wide-requires
 wide-requires c κs = search needs
 
 returns : tie.Need-returns
-returns c = (search too-long-told, search too-long-left)
+returns c = search too-long-replied
 
 list-into-requires : tie.Need-list-into-requires
 list-into-requires c κs = search needs
@@ -19,7 +19,7 @@ same-length : tie.Need-same-length
 same-length c = search needs
 
 returns-2 : tie.Need-returns-2
-returns-2 c = (search list-told, search list-left)
+returns-2 c = search list-replied
 
 pub list-reply-spec : {M : Type 1} → statement M
 list-reply-spec =
