@@ -8,8 +8,8 @@ use Rattle.meaning.specs.Calls as meaning
 use Rattle.layout.specs.Layout.{holdsTable, tableOf}
 use Rattle.allowing.specs.Asking.{askedFrom}
 use Rattle.asks.specs.declared.Reply.{Reply}
-use Rattle.asks.specs.declared.Reply.the-variants as replied
-use Rattle.asks.specs.Replies.{told, spaceAfter}
+use Rattle.asks.specs.declared.Reply.the-variants as reply
+use Rattle.asks.specs.Replies.{replied}
 use Rattle.lines.specs.declared.Question.{Question}
 use Rattle.lines.specs.Named.{questionRead}
 use Rattle.heard.specs.Hearing.{bytesOf}
@@ -17,7 +17,7 @@ use Rattle.calls.specs.Calls.{repliedOn, repliedBy}
 
 -- 14, or the question to a table
 module _ (line words out : List ℕ) (b : Bool) (e : b ≡ holdsTable words) where
-  pub ask-no-table : b ≡ false → (replied.Refused 14, out) ≡ repliedBy line words out
+  pub ask-no-table : b ≡ false → (reply.Refused 14, out) ≡ repliedBy line words out
   unfolding repliedBy
   ask-no-table f = rw (sym e ∙ f) refl
 
@@ -29,12 +29,10 @@ module _ (line words out : List ℕ) (asked : Question) (a : asked ≡ questionR
   ok-is : (c : Bool) → asked .ok ≡ c → questionRead (bytesOf line) .ok ≡ c
   ok-is c f = sym (ap (λ (q : Question). q .ok) a) ∙ f
 
-  pub ask-misshapen : asked .ok ≡ false → (replied.Refused 1, out) ≡ repliedOn line words out
+  pub ask-misshapen : asked .ok ≡ false → (reply.Refused 1, out) ≡ repliedOn line words out
   unfolding repliedOn
   ask-misshapen f = rw (ok-is false f) refl
 
-  pub ask-replied : asked .ok ≡ true → (r : Reply) (x : List ℕ) → r ≡ told (meaning.ask (tableOf words) (length out) (askedFrom (asked .object) (asked .question) (asked .value))) →
-      x ≡ spaceAfter (meaning.ask (tableOf words) (length out) (askedFrom (asked .object) (asked .question) (asked .value))) out → (r, x) ≡ repliedOn line words out
+  pub ask-replied : asked .ok ≡ true → (r : Reply) (x : List ℕ) → (r, x) ≡ replied (meaning.ask (tableOf words) (length out) (askedFrom (asked .object) (asked .question) (asked .value))) out → (r, x) ≡ repliedOn line words out
   unfolding repliedOn
-  ask-replied f r x g h =
-      rw (ok-is true f) (ap₂ (λ (p : Reply) (l : List ℕ). (p, l)) g h ∙ ap (λ (q : Question). (told (meaning.ask (tableOf words) (length out) (askedFrom (q .object) (q .question) (q .value))), spaceAfter (meaning.ask (tableOf words) (length out) (askedFrom (q .object) (q .question) (q .value))) out)) a)
+  ask-replied f r x g = rw (ok-is true f) (g ∙ ap (λ (q : Question). replied (meaning.ask (tableOf words) (length out) (askedFrom (q .object) (q .question) (q .value))) out) a)

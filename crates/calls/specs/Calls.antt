@@ -9,8 +9,8 @@ use Rattle.layout.specs.Layout.{holdsTable, tableOf, rewritten, spaceFor, words
 use Rattle.ranges.specs.Headers.{headerOf}
 use Rattle.allowing.specs.Asking.{askedFrom}
 use Rattle.asks.specs.declared.Reply.{Reply}
-use Rattle.asks.specs.declared.Reply.the-variants as replied
-use Rattle.asks.specs.Replies.{told, spaceAfter}
+use Rattle.asks.specs.declared.Reply.the-variants as reply
+use Rattle.asks.specs.Replies.{replied}
 use Rattle.hexes.specs.Choice.{pick}
 use Rattle.lines.specs.declared.Operation.{Operation}
 use Rattle.lines.specs.Named.{openingRead, operationRead, questionRead, settlingRead}
@@ -86,8 +86,9 @@ receivedBy line words = pick (holdsTable words) (receivedOn line words) (receive
 unfoldable pub repliedOn : List ℕ → List ℕ → List ℕ → Reply × List ℕ
 repliedOn line words out =
     let asked = questionRead (bytesOf line) in
-    let reply = meaning.ask (tableOf words) (length out) (askedFrom (asked .object) (asked .question) (asked .value)) in
-    pick (asked .ok) (told reply, spaceAfter reply out) (replied.Refused 1, out)
+    pick (asked .ok)
+    (replied (meaning.ask (tableOf words) (length out) (askedFrom (asked .object) (asked .question) (asked .value))) out)
+    (reply.Refused 1, out)
 
 unfoldable pub repliedBy : List ℕ → List ℕ → List ℕ → Reply × List ℕ
-repliedBy line words out = pick (holdsTable words) (repliedOn line words out) (replied.Refused 14, out)
+repliedBy line words out = pick (holdsTable words) (repliedOn line words out) (reply.Refused 14, out)
