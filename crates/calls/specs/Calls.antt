@@ -1,9 +1,10 @@
 -- The calls: what each answers to a line, and the space afterwards.
-use mathlib.Core.List.{List, _++_}
+use mathlib.Core.List.{List, [], _∷_, _++_}
 use Prim.Native.Nat.{ℕ}
 use lib.ListN.{drop, length, take}
-use Rattle.meaning.specs.Table.{Header}
-use Rattle.meaning.specs.Refusals.{Frame}
+use Rattle.meaning.specs.Operations as meant
+use Rattle.meaning.specs.Table.{Header, Table}
+use Rattle.meaning.specs.Refusals.{Frame, Local}
 use Rattle.meaning.specs.Calls as meaning
 use Rattle.layout.specs.Layout.{holdsTable, tableOf, rewritten, spaceFor, wordsOf}
 use Rattle.ranges.specs.Headers.{headerOf}
@@ -12,11 +13,19 @@ use Rattle.asks.specs.declared.Reply.{Reply}
 use Rattle.asks.specs.declared.Reply.the-variants as reply
 use Rattle.asks.specs.Replies.{replied}
 use Rattle.hexes.specs.Choice.{pick}
+use Rattle.refusals.specs.Fields.{localFrom}
+use Rattle.writing.specs.Writing.{lineWritten}
+use Rattle.writing.specs.declared.Written.{Written}
+use Rattle.writing.specs.declared.Written.the-variants as written
+use Rattle.lines.specs.declared.Issue.{Issue}
 use Rattle.lines.specs.declared.Operation.{Operation}
-use Rattle.lines.specs.Named.{openingRead, operationRead, questionRead, settlingRead}
+use Rattle.lines.specs.Types.{lineOf, operation}
+use Rattle.lines.specs.Named.{issueRead, openingRead, operationRead, questionRead, settlingRead}
 use Rattle.heard.specs.Hearing.{bytesOf}
 use Rattle.calls.specs.declared.Opened.{Opened}
 use Rattle.calls.specs.declared.Opened.the-variants as opened
+use Rattle.calls.specs.declared.Issued.{Issued}
+use Rattle.calls.specs.declared.Issued.the-variants as issued
 use Rattle.calls.specs.declared.Received.{Received}
 use Rattle.calls.specs.declared.Received.the-variants as received
 use Rattle.calls.specs.declared.Settled.{Settled}
@@ -40,6 +49,33 @@ openedBy line words =
     pick (openingRead (bytesOf line) .ok)
     (openedAs words (meaning.openTable (length words) (spaceFor (header .size) (header .capacity)) header))
     (opened.Refused 1, words)
+
+-- The local operation that an issue line says.
+unfoldable pub localOf : Issue → Local
+localOf f = localFrom (f .object) (f .code) (f .value)
+
+-- The bytes of an operation's frame.
+unfoldable pub frameBytes : meant.Operation → List ℕ
+frameBytes u = lineOf operation (length (u .vector) ∷ u .sender ∷ u .object ∷ u .code ∷ u .value ∷ []) (u .vector)
+
+-- 10: "frame space shorter than the frame"; else the frame's line stands in the space, and the table has the operation.
+unfoldable pub framedAs : List ℕ → Table → List ℕ → Written × List ℕ → Issued × (List ℕ × List ℕ)
+framedAs words table out (written.Characters length, line) = (issued.Frame length, (rewritten words table, line))
+framedAs words table out (written.TooShort, line) = (issued.Refused 10, (words, out))
+
+-- "A refusal returns its number" and changes nothing.
+unfoldable pub issuedAs : List ℕ → List ℕ → meaning.Outcome → Issued × (List ℕ × List ℕ)
+issuedAs words out (meaning.Outcome.refused number) = (issued.Refused number, (words, out))
+issuedAs words out (meaning.Outcome.accepted u table) = framedAs words table out (lineWritten out (frameBytes u))
+
+-- "A local operation passes 14, 1, 3, 4, 9, 8, 10": what it gets, the table space and the frame space; on a table, and on any space.
+unfoldable pub issuedOn : List ℕ → List ℕ → List ℕ → Issued × (List ℕ × List ℕ)
+issuedOn line words out =
+    let f = issueRead (bytesOf line) in
+    pick (f .ok) (issuedAs words out (meaning.issue (tableOf words) (localOf f))) (issued.Refused 1, (words, out))
+
+unfoldable pub issuedBy : List ℕ → List ℕ → List ℕ → Issued × (List ℕ × List ℕ)
+issuedBy line words out = pick (holdsTable words) (issuedOn line words out) (issued.Refused 14, (words, out))
 
 -- "A refusal returns its number" and changes nothing; a settling call that is taken reports its steps.
 unfoldable pub settledAs : List ℕ → meaning.Settled → Settled × List ℕ

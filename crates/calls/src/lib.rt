@@ -2,21 +2,25 @@
 ghost use mathlib.Core.Path.{_≡_};
 ghost use Prim.Native.Nat.{_≤_};
 ghost use lib.ListN.{length, take};
-ghost use Rattle.meaning.specs.Calls.{openTable, receive};
+ghost use Rattle.meaning.specs.Calls.{issue, openTable, receive};
 ghost use Rattle.layout.specs.Layout.{spaceFor, tableOf};
 ghost use Rattle.checked.specs.Checked.{Checked};
 ghost use Rattle.ranges.specs.Headers.{headerOf};
-ghost use Rattle.calls.specs.Calls.{frameOf, openedAs, openedBy, receivedAs, receivedBy, receivedOn, repliedBy, repliedOn, settledBy, settledOn};
+ghost use Rattle.calls.specs.Calls.{frameOf, issuedAs, issuedBy, issuedOn, localOf, openedAs, openedBy, receivedAs, receivedBy, receivedOn, repliedBy, repliedOn, settledBy, settledOn};
 use asks::Reply;
 use refusals::Header;
 use refusals::Sent;
 use tags::RowCount;
 use tags::Station;
+use writing::Written;
 
 // The refusals that every call tries itself: no table in the space, and a line that is not of the call's type and shape.
 const NO_TABLE: u32 = 14;
 
 const MISSHAPEN: u32 = 1;
+
+// The frame space is shorter than the frame.
+const NO_ROOM: u32 = 10;
 
 // What an opening answers: a refusal's number, or nothing but that the table is fresh.
 pub enum Opened {
@@ -28,6 +32,12 @@ pub enum Opened {
 pub enum Received {
     Refused(u32),
     Accepted,
+}
+
+// What a local operation gets: a refusal's number, or how many characters its frame's line has in the lent space.
+pub enum Issued {
+    Refused(u32),
+    Frame(usize),
 }
 
 // What a settling call answers: a refusal's number, or how many steps it took.
@@ -111,6 +121,49 @@ pub fn receive(space: &mut [u32], line: &[u8]) -> Received
         return receive_line(space, line);
     }
     Received::Refused(NO_TABLE)
+}
+
+// A local operation that was read from its line: its frame is written before the table takes it, so that a short space changes nothing.
+fn issue_read(space: &mut [u32], f: lines::Issue, out: &mut [u8]) -> Issued
+    requires { ⌜ Checked (now space) ⌝ }
+    ensures { λ r. ⌜ (r, (now (space .exit), now (out .exit))) ≡ issuedAs (now (space .entry)) (now (out .entry)) (issue (tableOf (now (space .entry))) (localOf f)) ⌝ }
+{
+    let refusal = issues::issue_number(space, f.object, f.code, f.value);
+    if refusal != refusals::NONE {
+        return Issued::Refused(refusal);
+    }
+    let size = tags::wide(space[layout::SIZE_AT]);
+    let own = space[layout::OWN_AT];
+    let vector = issues::next_vector(space);
+    match printed::write_operation(out, own, f.object, f.code, f.value, &vector[0..size]) {
+        Written::Characters(n) => {
+            issues::take_local(space, f.object, f.code, f.value);
+            Issued::Frame(n)
+        }
+        Written::TooShort => Issued::Refused(NO_ROOM),
+    }
+}
+
+// An issue's line to a table that was checked.
+fn issue_line(space: &mut [u32], line: &[u8], out: &mut [u8]) -> Issued
+    requires { ⌜ Checked (now space) ⌝ }
+    ensures { λ r. ⌜ (r, (now (space .exit), now (out .exit))) ≡ issuedOn (now (line .entry)) (now (space .entry)) (now (out .entry)) ⌝ }
+{
+    let f = heard::issue(line);
+    if f.ok {
+        return issue_read(space, f, out);
+    }
+    Issued::Refused(MISSHAPEN)
+}
+
+// "A local operation passes 14, 1, 3, 4, 9, 8, 10": the frame's line goes into the lent space.
+pub fn issue(space: &mut [u32], line: &[u8], out: &mut [u8]) -> Issued
+    ensures { λ r. ⌜ (r, (now (space .exit), now (out .exit))) ≡ issuedBy (now (line .entry)) (now (space .entry)) (now (out .entry)) ⌝ }
+{
+    if rules::is_table(space) {
+        return issue_line(space, line, out);
+    }
+    Issued::Refused(NO_TABLE)
 }
 
 // A settling line to a table that was checked.

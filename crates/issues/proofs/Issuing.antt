@@ -124,10 +124,10 @@ module _ (s : List ℕ) (C : Checked s) (n : ℕ) (en : n ≡ sizeIn s) where
 
 -- the part of the array that is the vector
 module _ (s : List ℕ) (C : Checked s) (n : ℕ) (en : n ≡ sizeIn s) (next : List ℕ) (e : next ≡ padded 16 (raised (tableOf s .clock) (ownIn s))) where
-  raised-long : length (raised (tableOf s .clock) (ownIn s)) ≡ n
+  pub raised-long : length (raised (tableOf s .clock) (ownIn s)) ≡ n
   raised-long = length-set (tableOf s .clock) (ownIn s) (suc (getD (tableOf s .clock) (ownIn s) 0)) ∙ clock-long s C n en ∙ sym en
 
-  vector-is : take (n - 0) next ≡ raised (tableOf s .clock) (ownIn s)
+  pub vector-is : take (n - 0) next ≡ raised (tableOf s .clock) (ownIn s)
   vector-is = let q : n - 0 ≡ n = omega arith in rw (e, q) (take-at (raised (tableOf s .clock) (ownIn s)) _ n raised-long)
 
   pub vector-long : length (take (n - 0) next) ≡ n
