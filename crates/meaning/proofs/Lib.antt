@@ -1,4 +1,5 @@
 pub mod Papers
+pub mod Answers
 pub mod Tests
 pub mod Vectors
 pub mod Ascending
