@@ -4,3 +4,4 @@ pub mod Keys
 pub mod Arriving
 pub mod Made
 pub mod Chain
+pub mod Kept

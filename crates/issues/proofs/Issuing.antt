@@ -16,9 +16,10 @@ use Rattle.meaning.specs.Table.{Header, Table, kindIn}
 use Rattle.meaning.specs.Refusals.{firstOf, Local, declared, issuedBy, issueRefusals, roomFor, localRefusals, refusalOfLocal}
 use Rattle.meaning.specs.Calls.{afterArrival}
 use Rattle.meaning.proofs.Acceptance.{LocalAccepted, local-accepted}
+use Rattle.meaning.proofs.TableRules.{kept-by-local}
 use Rattle.meaning.proofs.TableFacts.{facts, every-place}
 use Rattle.layout.specs.Words.{padded}
-use Rattle.layout.specs.Layout.{tableOf, rewritten, sizeIn, ownIn, capacityIn, objectsIn, countIn}
+use Rattle.layout.specs.Layout.{holdsTable, tableOf, rewritten, sizeIn, ownIn, capacityIn, objectsIn, countIn}
 use Rattle.layout.proofs.Whole.{zeros-drop, fit}
 use Rattle.tags.specs.declared.Station.{Station}
 use Rattle.rows.specs.Arriving.{operationOf}
@@ -27,6 +28,7 @@ use Rattle.table.specs.Changes.{entryBelowLimit}
 use Rattle.table.proofs.Changing.{opened}
 use Rattle.checked.specs.Checked.{Checked}
 use Rattle.arrivals.specs.Arrives.{Arrives, arrivalFrom, hasRoom}
+use Rattle.arrivals.proofs.Kept.{table-back, table-held}
 use Rattle.arrivals.proofs.Made.{operation-is}
 use Rattle.arrivals.proofs.Chain.{numbered, chain-then}
 use Rattle.refusals.specs.Fields.{localFrom}
@@ -185,3 +187,11 @@ module _ (s : List ℕ) (C : Checked s) (n : ℕ) (en : n ≡ sizeIn s) (next : 
 pub number-early : (table : Table) (local : Local) (r : ℕ) → r ≡ firstOf (issueRefusals (table .header) (table .clock) local) → (r ≡ 0 → ⊥) → r ≡ refusalOfLocal table local
 unfolding refusalOfLocal localRefusals
 number-early table local r f d = sym (chain-then (issueRefusals (table .header) (table .clock) local) (not (roomFor table (issuedBy table local))) (numbered-chain (table .header) (table .clock) local) ∙ rw (sym f, ne-eqb r 0 d) refl)
+
+-- the space holds a table after an accepted local operation, and it is the table after it
+module _ (s : List ℕ) (C : Checked s) (local : Local) (ok : refusalOfLocal (tableOf s) local ≡ 0) where
+  pub issue-keeps : holdsTable (rewritten s (afterArrival (tableOf s) (issuedBy (tableOf s) local) (tableOf s .last))) ≡ true
+  issue-keeps = table-held (afterArrival (tableOf s) (issuedBy (tableOf s) local) (tableOf s .last)) (kept-by-local (tableOf s) local (C .by-rules) ok) s
+
+  pub issue-reads : tableOf (rewritten s (afterArrival (tableOf s) (issuedBy (tableOf s) local) (tableOf s .last))) ≡ afterArrival (tableOf s) (issuedBy (tableOf s) local) (tableOf s .last)
+  issue-reads = table-back (afterArrival (tableOf s) (issuedBy (tableOf s) local) (tableOf s .last)) (kept-by-local (tableOf s) local (C .by-rules) ok) s

@@ -4,7 +4,7 @@ use mathlib.Core.Bool.{Bool, true, false, not, cond}
 use mathlib.Core.List.{List}
 use Prim.Native.Nat.{ℕ, _+_, _-_, _<_}
 use native.Mathlib.Omega.{arith}
-use borrow.Author.Tests.{eq-eqb, ne-eqb, le-leb, ltb-true}
+use borrow.Author.Tests.{eqb-true, eq-eqb, ne-eqb, le-leb, ltb-true}
 use lib.Dec.{eqb, ltb}
 use lib.ListN.{length, getD, take, drop, set, length-set, length-map}
 use Rattle.meaning.specs.Tests.{every}
@@ -14,10 +14,12 @@ use Rattle.meaning.specs.Arrival.{rowsAfter}
 use Rattle.meaning.specs.Table.{Header, Table, kindIn}
 use Rattle.meaning.specs.Refusals.{firstOf, Frame, frameRefusals, roomFor, arrivalRefusals, refusalOfFrame}
 use Rattle.meaning.specs.Calls.{accepted, outcome, receive, afterArrival}
+use Rattle.meaning.proofs.Tests.{cases}
 use Rattle.meaning.proofs.Acceptance.{FrameAccepted, frame-accepted, next-number}
+use Rattle.meaning.proofs.TableRules.{kept-by-frame}
 use Rattle.meaning.proofs.TableFacts.{facts, every-place}
 use Rattle.layout.specs.Words.{pieces}
-use Rattle.layout.specs.Layout.{tableOf, rewritten, sizeIn, ownIn, capacityIn, objectsIn, countIn, rowsIn, rowsAt, rowOf, withLast}
+use Rattle.layout.specs.Layout.{holdsTable, tableOf, rewritten, sizeIn, ownIn, capacityIn, objectsIn, countIn, rowsIn, rowsAt, rowOf, withLast}
 use Rattle.layout.proofs.Pieces.{length-pieces}
 use Rattle.layout.proofs.Reading.{Well}
 use Rattle.layout.proofs.Changing.{Sized, well, sized, wide-set, and-then}
@@ -28,6 +30,7 @@ use Rattle.table.proofs.Changing.{all-of, opened}
 use Rattle.checked.specs.Checked.{Checked}
 use Rattle.arrivals.specs.Arrives.{Arrives, arrivalFrom, hasRoom}
 use Rattle.arrivals.proofs.Arriving.{opened-again, spells}
+use Rattle.arrivals.proofs.Kept.{table-back, table-held}
 use Rattle.arrivals.proofs.Made.{operation-is}
 use Rattle.arrivals.proofs.Chain.{numbered, chain-then}
 use Rattle.refusals.specs.Fields.{frameFrom}
@@ -171,3 +174,18 @@ module _ (s : List ℕ) (frame : Frame) (r : ℕ) (e : r ≡ refusalOfFrame (tab
   pub receive-taken : r ≡ 0 → (s₁ : List ℕ) → s₁ ≡ rewritten s (afterArrival (tableOf s) (frame .operation) (set (tableOf s .last) (frame .operation .sender) (frame .operation .vector))) → (0, s₁) ≡ receivedBy s frame
   unfolding receivedBy receive outcome outcomeIn
   receive-taken z s₁ f = rw (sym e, eq-eqb r 0 z, f) refl
+
+-- the space holds a table afterwards, whatever the number
+pub receive-keeps : (s : List ℕ) (frame : Frame) → Checked s → holdsTable (receivedBy s frame .1) ≡ true
+unfolding receivedBy receive outcome outcomeIn
+receive-keeps s frame C = cases (eqb (refusalOfFrame (tableOf s) frame) 0)
+    (λ q. rw q (table-held (afterArrival (tableOf s) (frame .operation) (set (tableOf s .last) (frame .operation .sender) (frame .operation .vector))) (kept-by-frame (tableOf s) frame (C .by-rules) (eqb-true (refusalOfFrame (tableOf s) frame) 0 q)) s))
+    (λ q. rw q (C .holds))
+
+-- and it is the table after the frame
+pub receive-reads : (s : List ℕ) (frame : Frame) → Checked s → refusalOfFrame (tableOf s) frame ≡ 0 →
+    tableOf (receivedBy s frame .1) ≡ afterArrival (tableOf s) (frame .operation) (set (tableOf s .last) (frame .operation .sender) (frame .operation .vector))
+unfolding receivedBy receive outcome outcomeIn
+receive-reads s frame C ok =
+    let after = afterArrival (tableOf s) (frame .operation) (set (tableOf s .last) (frame .operation .sender) (frame .operation .vector)) in
+    rw (eq-eqb (refusalOfFrame (tableOf s) frame) 0 ok) (table-back after (kept-by-frame (tableOf s) frame (C .by-rules) ok) s)
