@@ -1,7 +1,7 @@
 -- A record that keeps the table rules, written in a space: the space holds it, and it reads back.
 use mathlib.Core.Path.{_≡_, refl, ap, _∙_}
 use mathlib.Core.Bool.{true, _&&_}
-use mathlib.Core.List.{List, [], _∷_, List·Memᴰ, List·Memᴰ·head, List·Memᴰ·tail}
+use mathlib.Core.List.{List, [], _∷_, _++_, List·Memᴰ, List·Memᴰ·head, List·Memᴰ·tail}
 use Prim.Native.Nat.{ℕ, suc, _<_}
 use native.Mathlib.Omega.{arith}
 use borrow.Author.Tests.{eqb-true, le-leb}
@@ -15,11 +15,11 @@ use Rattle.meaning.proofs.Tests.{cases, and-left}
 use Rattle.meaning.proofs.Vectors.{same-eq, eq-same}
 use Rattle.meaning.proofs.TableFacts.{Facts, RowFacts, facts, header-facts}
 use Rattle.meaning.proofs.TableRules.{total-fits}
-use Rattle.layout.specs.Layout.{tableOf, rewritten, spaceFor, sizeIn, capacityIn, isSpelt, holdsTable}
+use Rattle.layout.specs.Layout.{tableOf, wordsOf, rewritten, beyond, spaceFor, sizeIn, capacityIn, isSpelt, holdsTable}
 use Rattle.layout.proofs.Pieces.{Wide, Each}
 use Rattle.layout.proofs.RowWords.{Shaped}
-use Rattle.layout.proofs.Reading.{InRange, Well}
-use Rattle.layout.proofs.Changing.{Sized, laid-rewritten, reread}
+use Rattle.layout.proofs.Reading.{InRange, Well, table-read}
+use Rattle.layout.proofs.Changing.{Sized, laid-again}
 
 wide-by : (n : ℕ) (l : List Vector) → ((k : ℕ) → k < length l → length (getD l k []) ≡ n) → Wide n l
 wide-by n [] h = tt
@@ -73,14 +73,23 @@ module _ (t : Table) (is : isTable t ≡ true) where
   sized-table : Sized t
   sized-table = let H = header-facts (t .header) (F .header-in-range) in record { some = H .size-range .0; few = H .size-range .1; small = H .capacity-range .1; within = F .within }
 
-  -- it reads back
-  pub table-back : (s : List ℕ) → tableOf (rewritten s t) ≡ t
-  table-back s = reread s t well-table
+  -- it reads back, whatever stands behind it
+  pub laid-back : (x : List ℕ) → tableOf (wordsOf t ++ x) ≡ t
+  laid-back x = table-read t well-table x
 
-  -- 14 is not given to the space
-  pub table-held : (s : List ℕ) → holdsTable (rewritten s t) ≡ true
+  -- and 14 is not given to the space
+  pub laid-held : (x : List ℕ) → holdsTable (wordsOf t ++ x) ≡ true
   unfolding holdsTable isSpelt
-  table-held s =
-      let words = rewritten s t in
-      let L = laid-rewritten s t well-table sized-table in
-      rw (le-leb (spaceFor (sizeIn words) (capacityIn words)) (length words) (L .room), eq-same words (rewritten words (tableOf words)) (L .spelt), table-back s) is
+  laid-held x =
+      let words = wordsOf t ++ x in
+      let L = laid-again t x well-table sized-table in
+      rw (le-leb (spaceFor (sizeIn words) (capacityIn words)) (length words) (L .room), eq-same words (rewritten words (tableOf words)) (L .spelt), laid-back x) is
+
+  -- the same of a table in the place of another
+  pub table-back : (s : List ℕ) → tableOf (rewritten s t) ≡ t
+  unfolding rewritten
+  table-back s = laid-back (beyond s)
+
+  pub table-held : (s : List ℕ) → holdsTable (rewritten s t) ≡ true
+  unfolding rewritten
+  table-held s = laid-held (beyond s)

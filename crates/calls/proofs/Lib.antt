@@ -3,3 +3,4 @@ pub mod Opening
 pub mod Asking
 pub mod Receiving
 pub mod Issuing
+pub mod Station

@@ -46,7 +46,7 @@ two-bytes [] h = omega arith
 two-bytes (a ∷ []) h = omega (arith, h .0)
 two-bytes (a ∷ b ∷ bs) h = omega (arith, h .0, h .1 .0)
 
-limit-read : (bytes : List ℕ) → AllBytes bytes → settlingRead bytes .limit ≤ 65535
+pub limit-read : (bytes : List ℕ) → AllBytes bytes → settlingRead bytes .limit ≤ 65535
 unfolding settlingRead lineRead fieldsRead read padded hasShape lengthOf
 limit-read bytes h = cases (hasShape 48 3 bytes)
     (λ b. rw b (let k = two-bytes (drop 1 bytes) (all-bytes-drop 1 bytes h) in omega arith))
