@@ -7,6 +7,7 @@ use lib.Dec.{eqb, leb}
 use lib.ListN.{length, drop, set}
 use borrow.Author.Tests.{eqb-true, le-leb}
 use Rattle.meaning.specs.Operations.{Operation}
+use Rattle.meaning.specs.Rows.{Row, unsettledCount}
 use Rattle.meaning.specs.Table.{Header, Table, inRange, isTable, opened}
 use Rattle.meaning.specs.Refusals.{Frame, Local, refusalOfFrame, refusalOfLocal, refusalOfSettling, settlingRefusals, issuedBy, firstOf, openingRefusals}
 use Rattle.meaning.specs.Calls as meaning
@@ -15,8 +16,10 @@ use Rattle.meaning.specs.History as history
 use Rattle.meaning.specs.History.{Event, Station, after, afterAll, afterOutcome, afterSettling, reached}
 use Rattle.meaning.proofs.Tests.{cases}
 use Rattle.meaning.proofs.Demand3 as demand3
+use Rattle.meaning.proofs.Agreement as agreement
+use Rattle.meaning.proofs.Agreement.{Within}
 use Rattle.meaning.proofs.TableRules.{kept-by-frame, kept-by-local, kept-by-settling, opened-is-table}
-use Rattle.layout.specs.Layout.{holdsTable, tableOf, rewritten, spaceFor, wordsOf}
+use Rattle.layout.specs.Layout.{holdsTable, tableOf, rewritten, rowOf, rowWords, rowsIn, sizeIn, spaceFor, wordsOf}
 use Rattle.allowing.specs.Asking.{askedFrom}
 use Rattle.asks.specs.declared.Reply.the-variants as reply
 use Rattle.asks.specs.Replies.{replied}
@@ -215,3 +218,33 @@ module _ (line before words : List ℕ) (e : openedBy line before ≡ (called.Fr
         ∙ picked (questionRead (bytesOf question) .ok) (replied (meaning.ask (tableOf now-words) (length out) asked) out) (reply.Refused 1, out) ok
         ∙ ap (λ (t : Table). replied (meaning.ask t (length out) asked) out) (holds-reached .table-is)
         ∙ ap (λ (r : meaning.Reply). replied r out) (demand3.every-answer header (eventsOfAll list words) opening-in-range (length out) asked)
+
+-- two spaces, each opened and used by any calls, whose stations have the same objects and have accepted the same operations
+module _ (line before words : List ℕ) (e : openedBy line before ≡ (called.Fresh, words)) (list : List Call)
+    (line′ before′ words′ : List ℕ) (e′ : openedBy line′ before′ ≡ (called.Fresh, words′)) (list′ : List Call)
+    (objects : headerRead (bytesOf line) .kinds ≡ headerRead (bytesOf line′) .kinds)
+    (to : Within (station line before words e list .accepted) (station line′ before′ words′ e′ list′ .accepted))
+    (from : Within (station line′ before′ words′ e′ list′ .accepted) (station line before words e list .accepted)) where
+  abbrev here : List ℕ
+  here = wordsAfterAll list words
+
+  abbrev there : List ℕ
+  there = wordsAfterAll list′ words′
+
+  H : Holds here (station line before words e list)
+  H = holds-reached line before words e list
+
+  H′ : Holds there (station line′ before′ words′ e′ list′)
+  H′ = holds-reached line′ before′ words′ e′ list′
+
+  -- "stations that accepted the same operations agree": every question line gets the same, in a list space of any contents
+  pub equal-answers : (question out : List ℕ) → repliedBy question here out ≡ repliedBy question there out
+  unfolding repliedBy repliedOn
+  equal-answers question out =
+      let asked = askedFrom (questionRead (bytesOf question) .object) (questionRead (bytesOf question) .question) (questionRead (bytesOf question) .value) in
+      let same : meaning.ask (tableOf here) (length out) asked ≡ meaning.ask (tableOf there) (length out) asked = ap (λ (t : Table). meaning.ask t (length out) asked) (H .table-is)
+      ∙ agreement.equal-answers (headerRead (bytesOf line)) (headerRead (bytesOf line′)) (eventsOfAll list words) (eventsOfAll list′ words′) (opening-in-range line before words e) (opening-in-range line′ before′ words′ e′) objects to from (length out) asked
+      ∙ sym (ap (λ (t : Table). meaning.ask t (length out) asked) (H′ .table-is)) in
+      picked (holdsTable here) (repliedOn question here out) (reply.Refused 14, out) (H .held)
+      ∙ ap (λ (r : meaning.Reply). pick (questionRead (bytesOf question) .ok) (replied r out) (reply.Refused 1, out)) same
+      ∙ sym (picked (holdsTable there) (repliedOn question there out) (reply.Refused 14, out) (H′ .held))
