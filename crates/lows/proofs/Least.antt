@@ -87,7 +87,7 @@ module _ (own : ℕ) (low₀ lasts low : List ℕ) (k at : ℕ) (L : Lessening o
             ∙ ap (λ (v : Vector). leastOf v (restFrom own (k + 1) (pieces n (n - (k + 1)) (drop (at + n) lasts)))) (sym (rw q at e));
       })
 
-pub lessening-done : (own : ℕ) (low₀ lasts low : List ℕ) (k at : ℕ) → Lessening own low₀ lasts low k at → length low ≤ k → low ≡ leastOf low₀ (othersOf own (pieces (length low₀) (length low₀) lasts))
+lessening-done : (own : ℕ) (low₀ lasts low : List ℕ) (k at : ℕ) → Lessening own low₀ lasts low k at → length low ≤ k → low ≡ leastOf low₀ (othersOf own (pieces (length low₀) (length low₀) lasts))
 lessening-done own low₀ lasts low k at L h =
     let z : length low₀ - k ≡ 0 = omega (arith, L .sized) in
     sym (L .whole ∙ rw z (none (ltb own k) (own - k)))
@@ -95,6 +95,9 @@ lessening-done own low₀ lasts low k at L h =
     none : (b : Bool) (m : ℕ) → leastOf low (cond b [] (othersOf m [])) ≡ low
     none true m = refl
     none false m = refl
+
+pub lessened-by : (own place : ℕ) (low₀ lasts low : List ℕ) (k at : ℕ) → place ≡ own → Lessening place low₀ lasts low k at → length low ≤ k → low ≡ leastOf low₀ (othersOf own (pieces (length low₀) (length low₀) lasts))
+lessened-by own place low₀ lasts low k at e L h = lessening-done place low₀ lasts low k at L h ∙ rw e refl
 
 -- the least of the clock and vectors below it is the least of the vectors
 least-below : (v clock : Vector) → atMost v clock ≡ true → length v ≡ length clock → least clock v ≡ v
@@ -145,12 +148,12 @@ module _ (clock lasts low : List ℕ) (own : ℕ) (few : length clock ≤ 16) (r
   pub low-asks : length (take (size - 0) low) * length (take (size - 0) low) ≤ length lasts
   low-asks = rw front room
 
-  pub low-is : othersBelow clock own (pieces size size lasts) ≡ true → (x : List ℕ) (station : ℕ) → station ≡ own → length x ≡ length (take (size - 0) low) → x ≡ leastOf (take (size - 0) low) (othersOf station (pieces (length (take (size - 0) low)) (length (take (size - 0) low)) lasts)) →
+  pub low-is : othersBelow clock own (pieces size size lasts) ≡ true → (x : List ℕ) → length x ≡ length (take (size - 0) low) → x ≡ leastOf (take (size - 0) low) (othersOf own (pieces (length (take (size - 0) low)) (length (take (size - 0) low)) lasts)) →
       x ++ drop (size - 0) low ≡ padded 16 (lowOf clock (othersOf own (pieces size size lasts)))
   unfolding othersBelow
-  low-is below x station o g f =
+  low-is below x g f =
       let others = othersOf own (pieces size size lasts) in
-      let e : x ≡ leastOf clock others = rw (front, o) at f in
+      let e : x ≡ leastOf clock others = rw front at f in
       let l : x ≡ lowOf clock others = e ∙ low-by-clock clock others (wide-others size own (pieces size size lasts) (wide-pieces size size lasts room)) below in
       let rest : drop (size - 0) low ≡ replicate (16 - size) 0 = ap (drop (size - 0)) clock-laid ∙ drop-at clock (replicate (16 - size) 0) (size - 0) (omega arith) in
       ap (λ (m : List ℕ). x ++ m) rest ∙ ap (λ (k : ℕ). x ++ replicate (16 - k) 0) (sym (g ∙ ap length front)) ∙ ap (padded 16) l

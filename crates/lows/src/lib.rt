@@ -12,17 +12,18 @@ use tags::Station;
 pub const MOST_STATIONS: usize = 16;
 
 // Lessens a vector, where it stands, by that of every station but the own one.
-fn lessen_by_others(low: &mut [u32], lasts: &[u32], own: usize)
+fn lessen_by_others(low: &mut [u32], lasts: &[u32], own: Station)
     requires { ⌜ length (now low) * length (now low) ≤ length (now lasts) ⌝ }
-    ensures { λ _. ⌜ now (low .exit) ≡ leastOf (now (low .entry)) (othersOf own (pieces (length (now (low .entry))) (length (now (low .entry))) (now (lasts .entry)))) ⌝ }
+    ensures { λ _. ⌜ now (low .exit) ≡ leastOf (now (low .entry)) (othersOf (own .0) (pieces (length (now (low .entry))) (length (now (low .entry))) (now (lasts .entry)))) ⌝ }
 {
+    let place = tags::wide(own.0);
     let mut k = 0;
     let mut at = 0;
     while k < low.len() {
         let station = k;
         let end = at + low.len();
         k += 1;
-        if station == own {
+        if station == place {
             at = end;
         } else {
             tags::lessen(low, &lasts[at..end]);
@@ -40,6 +41,6 @@ pub fn low_of(clock: &[u32], lasts: &[u32], own: Station) -> [u32; MOST_STATIONS
     let mut low = [0u32; MOST_STATIONS];
     moves::put(&mut low, 0, clock);
     let end = clock.len();
-    lessen_by_others(&mut low[0..end], lasts, tags::wide(own.0));
+    lessen_by_others(&mut low[0..end], lasts, own);
     low
 }

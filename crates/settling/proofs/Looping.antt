@@ -6,6 +6,8 @@ use mathlib.Core.List.{List, [], _∷_, _++_, map}
 use native.Mathlib.Omega.{arith}
 use lib.ListN.{length, take, drop, replicate}
 use lib.Seq.{paste}
+use mir.Val.{Fits}
+use mir.Syntax.{w64}
 use Rattle.meaning.specs.Rows.{Row, settledRow}
 use Rattle.layout.specs.Words.{pieces, flat, padded}
 use Rattle.layout.specs.Layout.{rowOf, rowWords}
@@ -100,3 +102,14 @@ module _ (kinds low : List ℕ) (limit : ℕ) (s₀ : List ℕ) (n w count : ℕ
 
     pub loop-done : (s′ : List ℕ) → s′ ≡ closedUp s from to (more * w) → s′ ≡ padded (rows * (7 + n)) (flat (map (rowWords n) (rowsThen kinds low limit R₀))) ++ drop (rows * (7 + n)) s₀
     loop-done s′ f = passing-done kinds low limit s₀ n rows s from to more left taken at-rows stop s′ (rw (L .wide) at f)
+
+-- the rows that were not passed, as a run of words
+module _ (s : List ℕ) (w from more m : ℕ) (e : m ≡ more) (room : from + more * w ≤ length s) where
+  pub run-within : from + m * w ≤ length s
+  run-within = rw e room
+
+  pub run-fits : length s * 4 < 9223372036854775808 → Fits w64 (m * w)
+  run-fits h = rw e (omega (arith, room))
+
+  pub run-closed : (to : ℕ) (s′ : List ℕ) → s′ ≡ closedUp s from to (m * w) → s′ ≡ closedUp s from to (more * w)
+  run-closed to s′ f = f ∙ rw e refl

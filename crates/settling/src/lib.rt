@@ -79,9 +79,9 @@ fn compared(row: &[u32], other: &[u32]) -> Neighbour
 }
 
 // What stands before the row at a place: the last of the rows kept so far, which end at another place.
-fn before(rows: &[u32], width: usize, at: usize, to: usize, left: usize) -> Neighbour
-    requires { ⌜ (keyWords ≤ width) × (to ≡ left * width) × (to ≤ at) × (at + width ≤ length (now rows)) ⌝ }
-    ensures { λ r. ⌜ r ≡ besideLast (rowOf (take width (drop at (now (rows .entry)))) .operation) (map rowOf (pieces width left (now (rows .entry)))) ⌝ }
+fn before(rows: &[u32], width: usize, at: usize, to: usize, left: RowCount) -> Neighbour
+    requires { ⌜ (keyWords ≤ width) × (to ≡ left .0 * width) × (to ≤ at) × (at + width ≤ length (now rows)) ⌝ }
+    ensures { λ r. ⌜ r ≡ besideLast (rowOf (take width (drop at (now (rows .entry)))) .operation) (map rowOf (pieces width (left .0) (now (rows .entry)))) ⌝ }
 {
     if to < width {
         return no_neighbour();
@@ -91,11 +91,11 @@ fn before(rows: &[u32], width: usize, at: usize, to: usize, left: usize) -> Neig
 }
 
 // What stands behind the row at a place, where so many rows follow it.
-fn behind(rows: &[u32], width: usize, at: usize, more: usize) -> Neighbour
-    requires { ⌜ (keyWords ≤ width) × (at + width + more * width ≤ length (now rows)) × (at + width ≤ length (now rows)) ⌝ }
-    ensures { λ r. ⌜ r ≡ besideNext (rowOf (take width (drop at (now (rows .entry)))) .operation) (map rowOf (pieces width more (drop (at + width) (now (rows .entry))))) ⌝ }
+fn behind(rows: &[u32], width: usize, at: usize, more: RowCount) -> Neighbour
+    requires { ⌜ (keyWords ≤ width) × (at + width + more .0 * width ≤ length (now rows)) × (at + width ≤ length (now rows)) ⌝ }
+    ensures { λ r. ⌜ r ≡ besideNext (rowOf (take width (drop at (now (rows .entry)))) .operation) (map rowOf (pieces width (more .0) (drop (at + width) (now (rows .entry))))) ⌝ }
 {
-    if more == 0 {
+    if more.0 == 0 {
         return no_neighbour();
     }
     let next = at + width;
@@ -167,15 +167,15 @@ fn step_for(
     rows: &[u32],
     size: usize,
     at: usize,
-    more: usize,
+    more: RowCount,
     to: usize,
-    left: usize,
+    left: RowCount,
     kinds: &[u32],
     low: &[u32],
 ) -> Step
-    requires { ⌜ (length (now low) ≡ size) × (size ≤ 16) × (to ≡ left * rowWidth size) × (to ≤ at) × (at + rowWidth size ≤ length (now rows)) × (at + rowWidth size + more * rowWidth size ≤ length (now rows)) ⌝ }
-    requires { ⌜ Held (now kinds) size (pieces (rowWidth size) left (now rows) ++ (take (rowWidth size) (drop at (now rows)) ∷ pieces (rowWidth size) more (drop (at + rowWidth size) (now rows)))) ⌝ }
-    ensures { λ r. ⌜ r ≡ stepFor (kindAt (now (kinds .entry))) (now (low .entry)) (rowsFrom size left (now (rows .entry))) (rowOf (take (rowWidth size) (drop at (now (rows .entry))))) (rowsFrom size more (drop (at + rowWidth size) (now (rows .entry)))) ⌝ }
+    requires { ⌜ (length (now low) ≡ size) × (size ≤ 16) × (to ≡ left .0 * rowWidth size) × (to ≤ at) × (at + rowWidth size ≤ length (now rows)) × (at + rowWidth size + more .0 * rowWidth size ≤ length (now rows)) ⌝ }
+    requires { ⌜ Held (now kinds) size (pieces (rowWidth size) (left .0) (now rows) ++ (take (rowWidth size) (drop at (now rows)) ∷ pieces (rowWidth size) (more .0) (drop (at + rowWidth size) (now rows)))) ⌝ }
+    ensures { λ r. ⌜ r ≡ stepFor (kindAt (now (kinds .entry))) (now (low .entry)) (rowsFrom size (left .0) (now (rows .entry))) (rowOf (take (rowWidth size) (drop at (now (rows .entry))))) (rowsFrom size (more .0) (drop (at + rowWidth size) (now (rows .entry)))) ⌝ }
 {
     let width = layout::VECTOR_AT + size;
     let end = at + width;
@@ -212,17 +212,17 @@ fn finish(
     width: usize,
     from: usize,
     to: usize,
-    more: usize,
-    left: usize,
-    taken: u32,
+    more: RowCount,
+    left: RowCount,
+    taken: RowCount,
 ) -> Passed
-    requires { ⌜ (to ≤ from) × (from + more * width ≤ length (now rows)) × (left + more < entryLimit) ⌝ }
-    ensures { λ r. ⌜ (r .left .0 ≡ left + more) × (r .taken .0 ≡ taken) × (now (rows .exit) ≡ closedUp (now (rows .entry)) from to (more * width)) ⌝ }
+    requires { ⌜ (to ≤ from) × (from + more .0 * width ≤ length (now rows)) × (left .0 + more .0 < entryLimit) ⌝ }
+    ensures { λ r. ⌜ (r .left .0 ≡ left .0 + more .0) × (r .taken .0 ≡ taken .0) × (now (rows .exit) ≡ closedUp (now (rows .entry)) from to (more .0 * width)) ⌝ }
 {
-    close_up(rows, from, to, more * width);
+    close_up(rows, from, to, tags::wide(more.0) * width);
     Passed {
-        left: RowCount((left + more) as u32),
-        taken: RowCount(taken),
+        left: RowCount(left.0 + more.0),
+        taken,
     }
 }
 
@@ -241,16 +241,33 @@ pub fn pass_rows(
     let width = layout::VECTOR_AT + size;
     let mut from = 0;
     let mut to = 0;
-    let mut more = tags::wide(count.0);
-    let mut left = 0;
+    let mut more = count.0;
+    let mut left: u32 = 0;
     let mut taken: u32 = 0;
     while 0 < more {
         if limit.0 <= taken {
-            return finish(rows, width, from, to, more, left, taken);
+            return finish(
+                rows,
+                width,
+                from,
+                to,
+                RowCount(more),
+                RowCount(left),
+                RowCount(taken),
+            );
         }
         more -= 1;
         let end = from + width;
-        match step_for(rows, size, from, more, to, left, kinds, low) {
+        match step_for(
+            rows,
+            size,
+            from,
+            RowCount(more),
+            to,
+            RowCount(left),
+            kinds,
+            low,
+        ) {
             Step::Keeps => {
                 moves::copy_down(rows, width, from, to);
                 to += width;
@@ -276,5 +293,13 @@ pub fn pass_rows(
             }
         }
     }
-    finish(rows, width, from, to, more, left, taken)
+    finish(
+        rows,
+        width,
+        from,
+        to,
+        RowCount(more),
+        RowCount(left),
+        RowCount(taken),
+    )
 }

@@ -1,6 +1,6 @@
 use lib.ListN.{length}
 use Prim.Native.Nat.{_-_}
-use Rattle.lows.proofs.Least.{Lessening, lessening-start, lessening-skip, lessening-by, lessening-done, part-room, part-long}
+use Rattle.lows.proofs.Least.{Lessening, lessening-start, lessening-skip, lessening-by, lessened-by, part-room, part-long}
 use native.Mathlib.Omega.{arith}
 use borrow.Author.Needs.{needs}
 use Rattle.lows.proofs.lessen_by_others.Statement.{statement}
@@ -8,12 +8,16 @@ use Rattle.lows.proofs.lessen_by_others.Tie as tie
 use Rattle.lows.proofs.lessen_by_others.Reads as reads
 use Rattle.lows.proofs.lessen_by_others.Lts as lts
 use Rattle.tags.proofs.lessen.Reads as lessen-reads
+use Rattle.tags.proofs.wide.Reads as wide-reads
 
 abbrev Inv-loop : tie.InvT-loop
-Inv-loop low₀ lasts own k₀ at₀ low k at = Lessening own low₀ lasts low k at
+Inv-loop low₀ lasts place k₀ at₀ low k at = Lessening place low₀ lasts low k at
 
 abbrev μ-loop : tie.MeasureT-loop
-μ-loop low₀ lasts own k₀ at₀ low k at = length low₀ - k
+μ-loop low₀ lasts place k₀ at₀ low k at = length low₀ - k
+
+wide-requires : tie.Need-wide-requires Inv-loop μ-loop
+wide-requires c κs = search needs
 
 loop-holds : tie.Need-loop-holds Inv-loop μ-loop
 loop-holds c = search lessening-start
@@ -55,7 +59,7 @@ same-length : tie.Need-same-length Inv-loop μ-loop
 same-length c = search needs
 
 returns : tie.Need-returns Inv-loop μ-loop
-returns c = search lessening-done
+returns c = search lessened-by
 
 pub lessen-by-others-spec : {M : Type 1} → statement M
 lessen-by-others-spec =
@@ -63,6 +67,7 @@ lessen-by-others-spec =
     (tie.spec
     Inv-loop
     μ-loop
+    wide-requires
     loop-holds
     add-end
     add-k

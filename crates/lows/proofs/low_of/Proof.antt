@@ -7,7 +7,6 @@ use Rattle.lows.proofs.low_of.Reads as reads
 use Rattle.lows.proofs.low_of.Lts as lts
 use Rattle.lows.proofs.lessen_by_others.Reads as lessen-by-others-reads
 use Rattle.moves.proofs.put.Reads as put-reads
-use Rattle.tags.proofs.wide.Reads as wide-reads
 
 slice-aggregate-put : tie.Need-slice-aggregate-put
 slice-aggregate-put c = search needs
@@ -24,9 +23,6 @@ part-low-start c = search needs
 part-low-end : tie.Need-part-low-end
 part-low-end c = search needs
 
-wide-requires : tie.Need-wide-requires
-wide-requires c κs = search needs
-
 lessen-by-others-requires : tie.Need-lessen-by-others-requires
 lessen-by-others-requires c κs = search low-asks
 
@@ -42,6 +38,5 @@ low-of-spec =
     sub-lessen-by-others
     part-low-start
     part-low-end
-    wide-requires
     lessen-by-others-requires
     returns)

@@ -10,7 +10,6 @@ use Rattle.moves.proofs.copy_down.Reads as copy-down-reads
 use Rattle.settling.proofs.finish.Reads as finish-reads
 use Rattle.settling.proofs.settle_row.Reads as settle-row-reads
 use Rattle.settling.proofs.step_for.Reads as step-for-reads
-use Rattle.tags.proofs.wide.Reads as wide-reads
 
 abbrev Inv-loop : tie.InvT-loop
 Inv-loop rows₀ size kinds low limit width from₀ to₀ more₀ left₀ taken₀ rows from to more left taken =
@@ -21,9 +20,6 @@ abbrev μ-loop : tie.MeasureT-loop
 
 add-width : tie.Need-add-width Inv-loop μ-loop
 add-width c = search needs
-
-wide-requires : tie.Need-wide-requires Inv-loop μ-loop
-wide-requires c κs = search needs
 
 loop-holds : tie.Need-loop-holds Inv-loop μ-loop
 loop-holds c = search loop-start
@@ -134,7 +130,6 @@ pass-rows-spec =
     Inv-loop
     μ-loop
     add-width
-    wide-requires
     loop-holds
     finish-requires
     same-length
