@@ -7,7 +7,7 @@ use lib.ListN.{length}
 use Rattle.meaning.specs.Table.{isTable}
 use Rattle.layout.specs.Layout.{Laid, holdsTable, tableOf, rowsAt, rowWidth, clockAt, sizeIn, ownIn, capacityIn, objectsIn, countIn}
 
--- `holds` is what the test of a space tells; all else follows from it (proofs/Checked.antt).
+-- `holds` is what the test of a space tells; all else follows from it (proofs/Checking.antt).
 pub record Checked (words : List ℕ) : Type 0 where
   pub holds : holdsTable words ≡ true
   pub laid : Laid words

@@ -12,7 +12,7 @@ use Rattle.meaning.specs.Rows.{Row}
 use Rattle.layout.specs.Words.{padded}
 use Rattle.layout.specs.Layout.{rowWords, rowOf}
 
--- a vector as long as the group is, , or none in a settled row
+-- a vector as long as the group is, or none in a settled row
 pub record Shaped (n : ℕ) (r : Row) : Type 0 where
   pub long : length (r .operation .vector) ≡ cond (r .settled) 0 n
 

@@ -37,7 +37,7 @@ fn low_in(s: &[u32], size: usize) -> [u32; lows::MOST_STATIONS]
     )
 }
 
-// The same with the numbers of the head in hand.
+// The settling call with the numbers of the head in hand.
 fn settle_opened(s: &mut [u32], size: usize, count: RowCount, limit: RowCount) -> RowCount
     requires { ⌜ Checked (now s) × Opened (now s) size (count .0) ⌝ }
     ensures { λ r. ⌜ (r .0 ≡ steps (tableOf (now (s .entry))) (limit .0)) × (now (s .exit) ≡ rewritten (now (s .entry)) (withRows (tableOf (now (s .entry))) (rowsSettled (tableOf (now (s .entry))) (limit .0)))) ⌝ }
