@@ -1,7 +1,7 @@
 -- Any calls, with any lines, one after the other over a space that was opened: what the space holds is what the meaning reaches.
-use mathlib.Core.Path.{_≡_, refl, sym, ap, _∙_, subst}
+use mathlib.Core.Path.{_≡_, refl, sym, ap, ap₂, _∙_, subst}
 use mathlib.Core.Bool.{Bool, true, false, _&&_, false≢true}
-use mathlib.Core.List.{List, [], _∷_, _++_}
+use mathlib.Core.List.{List, [], _∷_, _++_, map}
 use Prim.Native.Nat.{ℕ, _≤_}
 use lib.Dec.{eqb, leb}
 use lib.ListN.{length, drop, set}
@@ -20,6 +20,8 @@ use Rattle.meaning.proofs.Agreement as agreement
 use Rattle.meaning.proofs.Agreement.{Within}
 use Rattle.meaning.proofs.TableRules.{kept-by-frame, kept-by-local, kept-by-settling, opened-is-table}
 use Rattle.layout.specs.Layout.{holdsTable, tableOf, rewritten, rowOf, rowWords, rowsIn, sizeIn, spaceFor, wordsOf}
+use Rattle.layout.proofs.Pieces.{map-back}
+use Rattle.layout.proofs.Whole.{each-spelt}
 use Rattle.allowing.specs.Asking.{askedFrom}
 use Rattle.asks.specs.declared.Reply.the-variants as reply
 use Rattle.asks.specs.Replies.{replied}
@@ -248,3 +250,25 @@ module _ (line before words : List ℕ) (e : openedBy line before ≡ (called.Fr
       picked (holdsTable here) (repliedOn question here out) (reply.Refused 14, out) (H .held)
       ∙ ap (λ (r : meaning.Reply). pick (questionRead (bytesOf question) .ok) (replied r out) (reply.Refused 1, out)) same
       ∙ sym (picked (holdsTable there) (repliedOn question there out) (reply.Refused 14, out) (H′ .held))
+
+  -- the words of a space's rows are those of the rows that it holds
+  rows-spelt : (s : List ℕ) → Checked s → rowsIn s ≡ map (rowWords (tableOf s .header .size)) (tableOf s .rows)
+  unfolding tableOf
+  rows-spelt s K = sym (map-back rowOf (rowWords (sizeIn s)) (rowsIn s) (each-spelt s (K .laid)))
+
+  -- "fully settled ones hold the same bytes": in groups of one size the words of their rows are the same
+  pub equal-rows : headerRead (bytesOf line) .size ≡ headerRead (bytesOf line′) .size → unsettledCount (tableOf here .rows) ≡ 0 → unsettledCount (tableOf there .rows) ≡ 0 → rowsIn here ≡ rowsIn there
+  equal-rows sizes none none′ =
+      let header = headerRead (bytesOf line) in
+      let other = headerRead (bytesOf line′) in
+      let events = eventsOfAll list words in
+      let happened = eventsOfAll list′ words′ in
+      let same : tableOf here .rows ≡ tableOf there .rows =
+      ap (λ (t : Table). t .rows) (H .table-is)
+      ∙ agreement.equal-rows header other events happened (opening-in-range line before words e) (opening-in-range line′ before′ words′ e′) objects to from
+      (sym (ap (λ (t : Table). unsettledCount (t .rows)) (H .table-is)) ∙ none) (sym (ap (λ (t : Table). unsettledCount (t .rows)) (H′ .table-is)) ∙ none′)
+      ∙ sym (ap (λ (t : Table). t .rows) (H′ .table-is)) in
+      let size : tableOf here .header .size ≡ tableOf there .header .size =
+      ap (λ (t : Table). t .header .size) (H .table-is) ∙ ap (λ (h : Header). h .size) (demand3.reached-sound header events (opening-in-range line before words e) .same-header) ∙ sizes
+      ∙ sym (ap (λ (t : Table). t .header .size) (H′ .table-is) ∙ ap (λ (h : Header). h .size) (demand3.reached-sound other happened (opening-in-range line′ before′ words′ e′) .same-header)) in
+      rows-spelt here (checked here (H .held)) ∙ ap₂ (λ (n : ℕ) (rows : List Row). map (rowWords n) rows) size same ∙ sym (rows-spelt there (checked there (H′ .held)))
