@@ -17,7 +17,7 @@ use Rattle.lines.specs.Named.{openingRead, operationRead}
 use Rattle.lines.specs.declared.Opening.{Opening}
 use Rattle.lines.specs.declared.Operation.{Operation}
 use Rattle.lines.proofs.Named.{operation-only-spelling, operation-reads-back}
-use Rattle.lines.proofs.Taken.{opening-only-spelling, opening-reads-back}
+use Rattle.lines.proofs.Taken.{opening-kinds-read-back, opening-only-spelling, opening-reads-back}
 use Rattle.saved.specs.Named.{clockRead, closingRead, lastRead, rowRead, totalRead}
 use Rattle.saved.specs.declared.Clock.{Clock}
 use Rattle.saved.specs.declared.Closing.{Closing}
@@ -110,6 +110,12 @@ pub opening-characters-read-back : (stations own capacity : ℕ) (kinds : List �
     → ReadsBack Opening openingRead (record { ok = true; stations = stations; own = own; capacity = capacity; count = length kinds }) opening (stations ∷ own ∷ capacity ∷ length kinds ∷ []) kinds
 opening-characters-read-back stations own capacity kinds fit =
     written-reads Opening openingRead _ opening (stations ∷ own ∷ capacity ∷ length kinds ∷ []) kinds (opening-reads-back stations own capacity kinds fit)
+
+-- and its kinds, behind its six bytes
+pub opening-kinds-characters-read-back : (stations own capacity : ℕ) (kinds : List ℕ) → Fitting (shapeOf opening (length kinds)) (opening .typeByte ∷ stations ∷ own ∷ capacity ∷ length kinds ∷ kinds)
+    → ReadsBack (List ℕ) (drop 6) kinds opening (stations ∷ own ∷ capacity ∷ length kinds ∷ []) kinds
+opening-kinds-characters-read-back stations own capacity kinds fit =
+    written-reads (List ℕ) (drop 6) kinds opening (stations ∷ own ∷ capacity ∷ length kinds ∷ []) kinds (opening-kinds-read-back stations own capacity kinds fit)
 
 pub total-characters-read-back : (object high low : ℕ) → Fitting (shapeOf total 0) (total .typeByte ∷ object ∷ high ∷ low ∷ [])
     → ReadsBack Total totalRead (record { ok = true; object = object; high = high; low = low }) total (object ∷ high ∷ low ∷ []) []
