@@ -1,6 +1,6 @@
 -- Lines fed in pieces: what is kept of a line when its LF comes gets what the whole line gets.
 use Prim.Native.Nat.{ℕ, zero, suc, _+_, _-_, _*_, _≤_, _<_}
-use mathlib.Core.Path.{_≡_, refl, sym, ap, _∙_}
+use mathlib.Core.Path.{_≡_, refl, sym, ap, subst, _∙_}
 use mathlib.Core.Bool.{Bool, true, false}
 use mathlib.Core.List.{List, [], _∷_, _++_}
 use native.Mathlib.Numerals.{add-one}
@@ -20,7 +20,10 @@ use Rattle.lines.specs.Named.{openingRead}
 use Rattle.lines.specs.declared.Opening.{Opening}
 use Rattle.heard.specs.Hearing.{bytesOf, heardIn}
 use Rattle.heard.proofs.Hearing.{reads-heard}
-use Rattle.lines_examples.specs.Feeding.{afterLines, fed, groupAfter, groupFed, groupOf, groupOn, groupTaken, Keeps, lineOn, NoLf, restOf, taken, WholeLines}
+use Rattle.lines_examples.specs.declared.Kept.{Kept}
+use Rattle.lines_examples.specs.declared.More.{More}
+use Rattle.lines_examples.specs.declared.More.the-variants.{Yes}
+use Rattle.lines_examples.specs.Feeding.{afterLines, fed, Going, groupAfter, groupFed, groupOf, groupOn, groupTaken, Keeps, lineOn, NoLf, restOf, StillGoing, taken, WholeLines}
 
 -- the ways through stations_after
 module _ (s : List ℕ) (stations : ℕ) (r : Opening) (e : r ≡ openingRead s) where
@@ -190,6 +193,26 @@ fed-keeps (b ∷ piece) line space have K = fed-keeps piece (lineOn line b) (tak
 -- what feed promises
 pub whole-lines : (space piece : List ℕ) (have stations after : ℕ) → after ≡ groupFed space have stations piece → WholeLines space have stations piece after
 whole-lines space piece have stations after e line K = e ∙ fed-whole piece line space have stations K
+
+going-fed : (space piece : List ℕ) (have n : ℕ) (s : List ℕ) → Going space have → (n, s) ≡ fed space have piece → Going s n
+going-fed space piece have n s G e = record { line = restOf (G .line) piece; keeps = subst (λ (q : ℕ × List ℕ). Keeps (restOf (G .line) piece) (q .1) (q .0)) (sym e) (fed-keeps piece (G .line) space have (G .keeps)) }
+
+pub going-done : (space₀ : List ℕ) (have₀ stations₀ : ℕ) (piece space : List ℕ) (have stations i : ℕ) → Feeding space₀ have₀ stations₀ piece space have stations i → Going space₀ have₀ → length piece ≤ i → Going space have
+going-done space₀ have₀ stations₀ piece space have stations i F G h = going-fed space₀ piece have₀ have space G (feeding-done space₀ have₀ stations₀ piece space have stations i F h)
+
+going-start : (space : List ℕ) → length space ≡ 523 → Going space 0
+going-start space long = record { line = []; keeps = keeps-none space long }
+
+-- what main keeps: the space's length, and that input goes on
+pub record Holding (space : List ℕ) (have : ℕ) : Type 0 where
+  pub long : length space ≡ 523
+  pub going : Going space have
+
+pub holding-start : (space : List ℕ) → length space ≡ 523 → Holding space 0
+holding-start space long = record { long = long; going = going-start space long }
+
+pub holding-turn : (space s : List ℕ) (have : ℕ) (r : More) (kept : Kept) → Holding space have → StillGoing s r → r ≡ Yes kept → length s ≡ length space → Holding s (kept .have)
+holding-turn space s have r kept H g e l = record { long = l ∙ H .long; going = subst (λ (x : More). StillGoing s x) e g }
 
 -- pieces of input one after the other are fed as one
 pub fed-append : (space : List ℕ) (have : ℕ) (a b : List ℕ) → fed space have (a ++ b) ≡ fed (fed space have a .1) (fed space have a .0) b

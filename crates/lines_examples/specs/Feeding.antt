@@ -10,6 +10,8 @@ use Rattle.hexes.specs.Keeping.{kept, keptAll}
 use Rattle.lines.specs.Types.{longest}
 use Rattle.lines.specs.Named.{openingRead}
 use Rattle.heard.specs.Hearing.{bytesOf}
+use Rattle.lines_examples.specs.declared.More.{More}
+use Rattle.lines_examples.specs.declared.More.the-variants.{Yes, No}
 
 -- the group's size after the bytes of a line: what they say if they are an opening, or what it was
 unfoldable pub groupOf : ℕ → List ℕ → ℕ
@@ -68,3 +70,13 @@ pub record Keeps (line space : List ℕ) (have : ℕ) : Type 0 where
 -- what is answered is whole lines: of whatever line the characters in the space were kept
 abbrev pub WholeLines : List ℕ → ℕ → ℕ → List ℕ → ℕ → Type 0
 WholeLines space have stations piece after = (line : List ℕ) → Keeps line space have → after ≡ afterLines line stations piece
+
+-- a space holds what was kept of some line
+pub record Going (space : List ℕ) (have : ℕ) : Type 0 where
+  pub line : List ℕ
+  pub keeps : Keeps line space have
+
+-- where input goes on it still does
+abbrev pub StillGoing : List ℕ → More → Type 0
+StillGoing space (Yes kept) = Going space (kept .have)
+StillGoing space No = Unit {0}

@@ -1,6 +1,6 @@
 // Reads lines, takes each apart by its type and prints it again from its fields, or prints `ff01`. Then prints one answer of each kind.
 ghost use mathlib.Core.Path.{_≡_};
-ghost use Rattle.lines_examples.specs.Feeding.{fed, groupAfter, groupFed, groupTaken, taken, WholeLines};
+ghost use Rattle.lines_examples.specs.Feeding.{fed, Going, groupAfter, groupFed, groupTaken, StillGoing, taken, WholeLines};
 
 mod echo;
 
@@ -100,9 +100,11 @@ fn take(line: &mut [u8], kept: Kept, b: u8) -> Kept
 
 // The bytes of one read. Whole lines are answered, though the space keeps only so much of a long one.
 fn feed(line: &mut [u8], from: Kept, chunk: &[u8]) -> Kept
+    requires { ⌜ Going (now line) (from .have) ⌝ }
     ensures { λ r. ⌜ ((r .have, now (line .exit)) ≡ fed (now (line .entry)) (from .have) (now (chunk .entry)))
         × ((r .stations ≡ groupFed (now (line .entry)) (from .have) (from .stations) (now (chunk .entry)))
-        × WholeLines (now (line .entry)) (from .have) (from .stations) (now (chunk .entry)) (r .stations)) ⌝ }
+        × (WholeLines (now (line .entry)) (from .have) (from .stations) (now (chunk .entry)) (r .stations)
+        × Going (now (line .exit)) (r .have))) ⌝ }
 {
     let mut have = from.have;
     let mut stations = from.stations;
@@ -176,7 +178,10 @@ enum More {
 }
 
 // One read, and its bytes.
-fn some(line: &mut [u8], kept: Kept) -> More {
+fn some(line: &mut [u8], kept: Kept) -> More
+    requires { ⌜ Going (now line) (kept .have) ⌝ }
+    ensures { λ r. ⌜ StillGoing (now (line .exit)) r ⌝ }
+{
     let mut buffer = io::large_buffer();
     let got = libc::read(STDIN_FILENO, &mut buffer);
     if got <= 0 {

@@ -1,7 +1,7 @@
 -- `lines_examples::feed` meets its contract. The loop keeps `Feeding`: what is left of the piece is taken from where the line stands.
 use Prim.Native.Nat.{_-_}
 use lib.ListN.{length}
-use Rattle.lines_examples.proofs.Feeding.{Feeding, feeding-start, feeding-turn, feeding-done, group-done, whole-lines}
+use Rattle.lines_examples.proofs.Feeding.{Feeding, feeding-start, feeding-turn, feeding-done, going-done, group-done, whole-lines}
 use borrow.Author.Needs.{needs}
 use Rattle.lines_examples.proofs.feed.Statement.{statement}
 use Rattle.lines_examples.proofs.feed.Tie as tie
@@ -34,7 +34,7 @@ same-length : tie.Need-same-length Inv-loop μ-loop
 same-length c = search needs
 
 returns : tie.Need-returns Inv-loop μ-loop
-returns c = (search feeding-done, (search group-done, whole-lines _ _ _ _ _ (search group-done)))
+returns c = (search feeding-done, (search group-done, (whole-lines _ _ _ _ _ (search group-done), search going-done)))
 
 pub feed-spec : {M : Type 1} → statement M
 feed-spec =
