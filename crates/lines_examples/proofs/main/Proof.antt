@@ -1,4 +1,4 @@
--- `lines_examples::main` meets its contract. The loop keeps the line's length.
+-- `lines_examples::main` meets its contract. The loop keeps `Holding`: the line's length, and that its space holds what was kept of a line.
 use Rattle.lines_examples.proofs.Feeding.{Holding, holding-start, holding-turn}
 use borrow.Author.Needs.{needs}
 use Rattle.lines_examples.proofs.main.Statement.{statement}
