@@ -29,7 +29,7 @@ const BYTE_VALUES: u32 = 256;
 
 const CHARACTERS: usize = 2;
 
-// A line's bytes are so many at the front of the buffer; or it is no line.
+// A line's bytes are so many at the front of the buffer; or it is no line, or has more bytes than the buffer holds.
 pub enum Decoded {
     Bytes(usize),
     Malformed,
@@ -56,7 +56,7 @@ fn value_of(c: u8) -> u8
     } else if c <= b'9' {
         c - b'0'
     } else if c < FIRST_LETTER {
-        NO_DIGIT
+        NO_DIGIT // upper-case letters stand here
     } else if c <= LAST_LETTER {
         c - FIRST_LETTER + TEN
     } else {

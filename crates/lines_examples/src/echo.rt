@@ -1,4 +1,6 @@
 // A line's bytes taken apart, and the line printed again.
+ghost use mathlib.Core.Path.{_≡_};
+ghost use Rattle.lines_examples.specs.Feeding.{groupOf};
 use shapes::NextByte;
 use writing::Written;
 
@@ -13,7 +15,9 @@ pub(crate) fn refuse(out: &mut [u8]) -> Written {
 }
 
 // The size of the group: the last opening's.
-pub(crate) fn stations_after(s: &[u8], before: usize) -> usize {
+pub(crate) fn stations_after(s: &[u8], before: usize) -> usize
+    ensures { λ r. ⌜ r ≡ groupOf before (now (s .entry)) ⌝ }
+{
     let r = lines::read_opening(s);
     if r.ok { r.stations as usize } else { before }
 }

@@ -1,15 +1,14 @@
 // Reads lines, takes each apart by its type and prints it again from its fields, or prints `ff01`. Then prints one answer of each kind.
 ghost use mathlib.Core.Path.{_≡_};
-ghost use Rattle.lines_examples.specs.Feeding.{fed, taken};
+ghost use Rattle.lines_examples.specs.Feeding.{fed, Going, groupAfter, groupFed, groupTaken, StillGoing, taken, WholeLines};
 
 mod echo;
 
-use hexes::Decoded;
 use libc::STDIN_FILENO;
 use libc::STDOUT_FILENO;
 use writing::Written;
 
-// The characters of the longest line. Of a longer one so many are kept, which get the same answer (law `line-answered`).
+// The characters of the longest line. Of a longer one so many are kept, which get the same answer (law `line-answered`, in the promise of `feed`).
 const LINE: usize = 2 * lines::LONGEST + 1;
 
 // What the answers at the end say: the refusal of a space that holds no table, a flag that is on, steps taken, and the total -7 in its two words.
@@ -63,30 +62,22 @@ fn refuse() {
     print(&out, written);
 }
 
-// Answers one line; the group's size after it.
-fn reply(line: &[u8], stations: usize) -> usize {
+// Answers one line; the group's size after it. What is no line is heard as no bytes, which have no type.
+fn reply(line: &[u8], stations: usize) -> usize
+    ensures { λ r. ⌜ r ≡ groupAfter stations (now (line .entry)) ⌝ }
+{
     let mut bytes = [0u8; lines::LONGEST];
+    let n = heard::hear(line, &mut bytes);
     let mut out = [0u8; LINE];
-    match hexes::decode(line, &mut bytes) {
-        Decoded::Bytes(n) => {
-            if lines::LONGEST < n {
-                refuse();
-                return stations;
-            }
-            let written = echo::echo(&bytes[0..n], stations, &mut out);
-            print(&out, written);
-            echo::stations_after(&bytes[0..n], stations)
-        }
-        Decoded::Malformed => {
-            refuse();
-            stations
-        }
-    }
+    let written = echo::echo(&bytes[0..n], stations, &mut out);
+    print(&out, written);
+    echo::stations_after(&bytes[0..n], stations)
 }
 
-// One byte of input: it joins the line, and ends it if it is LF.
+// One byte of input: it joins the line, and ends it if it is LF. No more is kept than the space holds.
 fn take(line: &mut [u8], kept: Kept, b: u8) -> Kept
-    ensures { λ r. ⌜ (r .have, now (line .exit)) ≡ taken (now (line .entry)) (kept .have) b ⌝ }
+    ensures { λ r. ⌜ ((r .have, now (line .exit)) ≡ taken (now (line .entry)) (kept .have) b)
+        × (r .stations ≡ groupTaken (now (line .entry)) (kept .have) (kept .stations) b) ⌝ }
 {
     let have = hexes::keep(line, kept.have, b);
     let stations = kept.stations;
@@ -94,18 +85,26 @@ fn take(line: &mut [u8], kept: Kept, b: u8) -> Kept
         return Kept { have, stations };
     }
     if line.len() < have {
-        refuse();
-        return Kept { have: 0, stations };
+        let after = reply(line, stations);
+        return Kept {
+            have: 0,
+            stations: after,
+        };
     }
+    let after = reply(&line[0..have], stations);
     Kept {
         have: 0,
-        stations: reply(&line[0..have], stations),
+        stations: after,
     }
 }
 
-// The bytes of one read.
+// The bytes of one read. Whole lines are answered, though the space keeps only so much of a long one.
 fn feed(line: &mut [u8], from: Kept, chunk: &[u8]) -> Kept
-    ensures { λ r. ⌜ (r .have, now (line .exit)) ≡ fed (now (line .entry)) (from .have) (now (chunk .entry)) ⌝ }
+    requires { ⌜ Going (now line) (from .have) ⌝ }
+    ensures { λ r. ⌜ ((r .have, now (line .exit)) ≡ fed (now (line .entry)) (from .have) (now (chunk .entry)))
+        × ((r .stations ≡ groupFed (now (line .entry)) (from .have) (from .stations) (now (chunk .entry)))
+        × (WholeLines (now (line .entry)) (from .have) (from .stations) (now (chunk .entry)) (r .stations)
+        × Going (now (line .exit)) (r .have))) ⌝ }
 {
     let mut have = from.have;
     let mut stations = from.stations;
@@ -179,7 +178,10 @@ enum More {
 }
 
 // One read, and its bytes.
-fn some(line: &mut [u8], kept: Kept) -> More {
+fn some(line: &mut [u8], kept: Kept) -> More
+    requires { ⌜ Going (now line) (kept .have) ⌝ }
+    ensures { λ r. ⌜ StillGoing (now (line .exit)) r ⌝ }
+{
     let mut buffer = io::large_buffer();
     let got = libc::read(STDIN_FILENO, &mut buffer);
     if got <= 0 {

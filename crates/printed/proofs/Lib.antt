@@ -1,3 +1,4 @@
 pub mod Sayable
 pub mod Spelling
 pub mod Joined
+pub mod Named

@@ -1,15 +1,15 @@
--- A line taken apart, or refused for its shape: the ways through has_shape and read_fields.
+-- A line taken apart, or refused for its shape: the ways through ends_at, has_shape and read_fields.
 use Prim.Native.Nat.{ℕ, _+_, _-_, _*_, _≤_, _<_}
 use mathlib.Core.Path.{_≡_, refl, sym, ap, _∙_}
-use mathlib.Core.Bool.{Bool, true, false, _&&_}
+use mathlib.Core.Bool.{Bool, true, false, not, _&&_}
 use mathlib.Core.List.{List, [], _∷_}
 use native.Mathlib.Omega.{arith}
-use borrow.Author.Tests.{eq-eqb, eqb-true, le-leb, leb-true, lt-leb, ne-eqb}
+use borrow.Author.Tests.{eq-eqb, eqb-true, le-leb, leb-false, leb-true, lt-leb, ne-eqb}
 use lib.Dec.{eqb, leb}
 use lib.ListN.{length, drop, replicate, length-append, length-replicate}
 use Rattle.hexes.specs.Choice.{pick}
 use Rattle.hexes.proofs.Digits.{and-left, and-right}
-use Rattle.shapes.specs.Places.{byteAt}
+use Rattle.shapes.specs.Places.{atEnd, byteAt}
 use Rattle.shapes.specs.Shapes.{lengthOf, narrow, read}
 use Rattle.shapes.specs.Reading.{entries, fieldsRead, hasShape, Head, mostStations, padded, sizeOf, startsWith, unread}
 use Rattle.shapes.specs.declared.Fields.{Fields}
@@ -18,23 +18,56 @@ use Rattle.shapes.specs.declared.NextByte.the-variants.{Byte, NoByte}
 use Rattle.shapes.proofs.Places.{byte-given, no-byte-given}
 use Rattle.shapes.proofs.Spelling.{length-of-narrow, length-read}
 
+module _ (s : List ℕ) (size : ℕ) where
+  pub ends-empty : (r : Bool) → r ≡ atEnd s size → size ≡ 0 → r ≡ eqb (length s) size
+  unfolding atEnd
+  ends-empty r e h = e ∙ go (leb (length s) size) refl
+    where
+      go : (t : Bool) → leb (length s) size ≡ t → t ≡ eqb (length s) size
+      go true f = sym (eq-eqb (length s) size (omega (arith, leb-true (length s) size f)))
+      go false f = sym (ne-eqb (length s) size (λ k. omega (arith, leb-false (length s) size f)))
+
+  pub ends-short : (b : Bool) → b ≡ atEnd s (size - 1) → b ≡ true → (size ≡ 0 → ⊥) → false ≡ eqb (length s) size
+  unfolding atEnd
+  ends-short b e f h = sym (ne-eqb (length s) size (λ k. h (omega (arith, leb-true (length s) (size - 1) (sym e ∙ f)))))
+
+  pub ends-there : (b r : Bool) → b ≡ atEnd s (size - 1) → b ≡ false → r ≡ atEnd s size → r ≡ eqb (length s) size
+  unfolding atEnd
+  ends-there b r e f g = g ∙ go (leb (length s) size) refl
+    where
+      past : size - 1 < length s
+      past = leb-false (length s) (size - 1) (sym e ∙ f)
+
+      go : (t : Bool) → leb (length s) size ≡ t → t ≡ eqb (length s) size
+      go true k = sym (eq-eqb (length s) size (omega (arith, past, leb-true (length s) size k)))
+      go false k = sym (ne-eqb (length s) size (λ j. omega (arith, leb-false (length s) size k)))
+
+-- the code tests for the opposite
+passed : (t : Bool) → not t ≡ false → t ≡ true
+passed true h = refl
+passed false h = absurd (let z : _≡_ {A = ℕ} 0 1 = cc in omega arith)
+
+refused : (t : Bool) → not t ≡ true → t ≡ false
+refused false h = refl
+refused true h = absurd (let z : _≡_ {A = ℕ} 0 1 = cc in omega arith)
+
 module _ (s : List ℕ) (kind size : ℕ) where
-  pub shape-length : (length s ≡ size → ⊥) → false ≡ hasShape kind size s
+  pub shape-length : (t : Bool) → t ≡ eqb (length s) size → not t ≡ true → false ≡ hasShape kind size s
   unfolding hasShape
-  shape-length h = rw (ne-eqb (length s) size h) refl
+  shape-length t e h = rw (← e, refused t h) refl
 
   starts : (b next : ℕ) (l : List ℕ) → byteAt l 0 ≡ Byte b next → startsWith kind l ≡ eqb b kind
   unfolding startsWith byteAt
   starts b next [] e = absurd (let z : _≡_ {A = ℕ} 0 1 = cc in omega arith)
   starts b next (x ∷ l) e = let same : b ≡ x = byte-given (x ∷ l) 0 b next e .byte in rw same refl
 
-  pub shape-first : (p : NextByte) (b next : ℕ) → length s ≡ size → p ≡ byteAt s 0 → p ≡ Byte b next → eqb b kind ≡ hasShape kind size s
+  pub shape-first : (p : NextByte) (b next : ℕ) (t : Bool) → t ≡ eqb (length s) size → not t ≡ false → p ≡ byteAt s 0 → p ≡ Byte b next → eqb b kind ≡ hasShape kind size s
   unfolding hasShape
-  shape-first p b next h e f = sym (rw (eq-eqb (length s) size h) (starts b next s (sym e ∙ f)))
+  shape-first p b next t h k e f = sym (rw (← h, passed t k) (starts b next s (sym e ∙ f)))
 
-  pub shape-empty : (p : NextByte) → length s ≡ size → p ≡ byteAt s 0 → p ≡ NoByte → false ≡ hasShape kind size s
+  pub shape-empty : (p : NextByte) → p ≡ byteAt s 0 → p ≡ NoByte → false ≡ hasShape kind size s
   unfolding hasShape startsWith
-  shape-empty p h e f = go s (no-byte-given s 0 (sym e ∙ f))
+  shape-empty p e f = go s (no-byte-given s 0 (sym e ∙ f))
     where
       go : (l : List ℕ) → length l ≤ 0 → false ≡ eqb (length l) size && startsWith kind l
       go [] k = go′ (eqb 0 size)

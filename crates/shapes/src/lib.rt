@@ -1,6 +1,7 @@
 // Fields and bytes: numbers read from the bytes of a line by the widths of its shape.
 ghost use mathlib.Core.Path.{_≡_};
 ghost use Prim.Native.Nat.{_+_, _*_, _<_, _≤_};
+ghost use lib.Dec.{eqb};
 ghost use lib.ListN.{drop, length, take};
 ghost use Rattle.hexes.specs.Numbers.{numberOf};
 ghost use Rattle.shapes.specs.Places.{atEnd, byteAt, fourAt};
@@ -155,11 +156,24 @@ fn entries_at(s: &[u8], at: usize, stations: usize) -> [u32; MOST_STATIONS]
     vector
 }
 
+// Whether bytes are so many: a place is the end, and the one before it is not.
+fn ends_at(s: &[u8], size: usize) -> bool
+    ensures { λ r. ⌜ r ≡ eqb (length (now (s .entry))) size ⌝ }
+{
+    if size == 0 {
+        return at_end(s, size);
+    }
+    if at_end(s, size - 1) {
+        return false;
+    }
+    at_end(s, size)
+}
+
 // Whether bytes are so many, the first of them the type.
 pub fn has_shape(s: &[u8], kind: u8, size: usize) -> bool
     ensures { λ r. ⌜ r ≡ hasShape kind size (now (s .entry)) ⌝ }
 {
-    if s.len() != size {
+    if !ends_at(s, size) {
         return false;
     }
     match byte_at(s, 0) {

@@ -1,13 +1,13 @@
 -- `lines_examples::feed` meets its contract. The loop keeps `Feeding`: what is left of the piece is taken from where the line stands.
 use Prim.Native.Nat.{_-_}
 use lib.ListN.{length}
-use Rattle.lines_examples.proofs.Feeding.{Feeding, feeding-start, feeding-turn, feeding-done}
+use Rattle.lines_examples.proofs.Feeding.{Feeding, feeding-start, feeding-turn, feeding-done, going-done, group-done, whole-lines}
 use borrow.Author.Needs.{needs}
 use Rattle.lines_examples.proofs.feed.Statement.{statement}
 use Rattle.lines_examples.proofs.feed.Tie as tie
 
 abbrev Inv-loop : tie.InvT-loop
-Inv-loop line₀ chunk have₀ stations₀ i₀ line have stations i = Feeding line₀ have₀ chunk line have i
+Inv-loop line₀ chunk have₀ stations₀ i₀ line have stations i = Feeding line₀ have₀ stations₀ chunk line have stations i
 
 abbrev μ-loop : tie.MeasureT-loop
 μ-loop line₀ chunk have₀ stations₀ i₀ line have stations i = length chunk - i
@@ -34,7 +34,7 @@ same-length : tie.Need-same-length Inv-loop μ-loop
 same-length c = search needs
 
 returns : tie.Need-returns Inv-loop μ-loop
-returns c = search feeding-done
+returns c = (search feeding-done, (search group-done, (whole-lines _ _ _ _ _ (search group-done), search going-done)))
 
 pub feed-spec : {M : Type 1} → statement M
 feed-spec =

@@ -1,18 +1,17 @@
--- `lines_examples::main` meets its contract. The loop keeps the line's length.
-use mathlib.Core.Path.{_≡_}
-use lib.ListN.{length}
+-- `lines_examples::main` meets its contract. The loop keeps `Holding`: the line's length, and that its space holds what was kept of a line.
+use Rattle.lines_examples.proofs.Feeding.{Holding, holding-start, holding-turn}
 use borrow.Author.Needs.{needs}
 use Rattle.lines_examples.proofs.main.Statement.{statement}
 use Rattle.lines_examples.proofs.main.Tie as tie
 
 abbrev Inv-loop : tie.InvT-loop
-Inv-loop line₀ have₀ stations₀ turns₀ line have stations turns = length line ≡ 523
+Inv-loop line₀ have₀ stations₀ turns₀ line have stations turns = Holding line have
 
 abbrev μ-loop : tie.MeasureT-loop
 μ-loop line₀ have₀ stations₀ turns₀ line have stations turns = turns
 
 loop-holds : tie.Need-loop-holds Inv-loop μ-loop
-loop-holds c = search needs
+loop-holds c = search holding-start
 
 slice-aggregate-some : tie.Need-slice-aggregate-some Inv-loop μ-loop
 slice-aggregate-some c = search needs
@@ -42,7 +41,7 @@ loop-less : tie.Need-loop-less Inv-loop μ-loop
 loop-less c = search needs
 
 loop-again : tie.Need-loop-again Inv-loop μ-loop
-loop-again c = search needs
+loop-again c = search holding-turn
 
 returns-2 : tie.Need-returns-2 Inv-loop μ-loop
 returns-2 c = search needs

@@ -1,5 +1,5 @@
 -- `lines_examples::take` meets its contract.
-use Rattle.lines_examples.proofs.Feeding.{taken-joined, taken-ended}
+use Rattle.lines_examples.proofs.Feeding.{group-ended, group-joined, group-whole, taken-ended, taken-joined}
 use borrow.Author.Needs.{needs}
 use Rattle.lines_examples.proofs.take.Statement.{statement}
 use Rattle.lines_examples.proofs.take.Tie as tie
@@ -11,16 +11,16 @@ same-length : tie.Need-same-length
 same-length c = search needs
 
 returns : tie.Need-returns
-returns c = search taken-joined
+returns c = (search taken-joined, search group-joined)
 
-refuse-requires : tie.Need-refuse-requires
-refuse-requires c κs = search needs
+reply-requires : tie.Need-reply-requires
+reply-requires c κs = search needs
 
 same-length-2 : tie.Need-same-length-2
 same-length-2 c = search needs
 
 returns-2 : tie.Need-returns-2
-returns-2 c = search taken-ended
+returns-2 c = (search taken-ended, search group-whole)
 
 sub-reply : tie.Need-sub-reply
 sub-reply c = search needs
@@ -31,14 +31,14 @@ part-reply-start c = search needs
 part-reply-end : tie.Need-part-reply-end
 part-reply-end c = search needs
 
-reply-requires : tie.Need-reply-requires
-reply-requires c κs = search needs
+reply-requires-2 : tie.Need-reply-requires-2
+reply-requires-2 c κs = search needs
 
 same-length-3 : tie.Need-same-length-3
 same-length-3 c = search needs
 
 returns-3 : tie.Need-returns-3
-returns-3 c = search taken-ended
+returns-3 c = (search taken-ended, search group-ended)
 
 pub take-spec : {M : Type 1} → statement M
 take-spec =
@@ -47,12 +47,12 @@ take-spec =
     keep-requires
     same-length
     returns
-    refuse-requires
+    reply-requires
     same-length-2
     returns-2
     sub-reply
     part-reply-start
     part-reply-end
-    reply-requires
+    reply-requires-2
     same-length-3
     returns-3)

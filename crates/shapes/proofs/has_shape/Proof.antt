@@ -1,12 +1,14 @@
 -- `shapes::has_shape` meets its contract.
 use Rattle.shapes.proofs.Taking.{shape-length, shape-first, shape-empty}
-use native.Mathlib.Omega.{arith}
 use borrow.Author.Needs.{needs}
 use Rattle.shapes.proofs.has_shape.Statement.{statement}
 use Rattle.shapes.proofs.has_shape.Tie as tie
 
+ends-at-requires : tie.Need-ends-at-requires
+ends-at-requires c κs = search needs
+
 returns : tie.Need-returns
-returns c = shape-length (c .before .before .args .s .now) (c .before .before .args .kind) (c .before .before .args .size) (λ e. omega arith)
+returns c = search shape-length
 
 byte-at-requires : tie.Need-byte-at-requires
 byte-at-requires c κs = search needs
@@ -25,4 +27,4 @@ returns-3 c = search shape-empty
 
 pub has-shape-spec : {M : Type 1} → statement M
 has-shape-spec =
-    tie.close (tie.spec returns byte-at-requires enum-known-first enum-told returns-2 returns-3)
+    tie.close (tie.spec ends-at-requires returns byte-at-requires enum-known-first enum-told returns-2 returns-3)
