@@ -10,7 +10,7 @@ returns : tie.Need-returns
 returns c = search (sizes-size, not-true)
 
 returns-2 : tie.Need-returns-2
-returns-2 c = search (sizes-own, arith)
+returns-2 c = sizes-own _ _ _ _ _ (omega arith)
 
 returns-3 : tie.Need-returns-3
 returns-3 c = search (sizes-capacity, not-true)
