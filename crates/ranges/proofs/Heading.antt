@@ -14,6 +14,7 @@ use lib.ListN.{length, getD, drop, drop-of-length-le}
 use lib.Seq.{drop-cons}
 use Rattle.meaning.specs.Tests.{every, between}
 use Rattle.meaning.specs.Table.{headerRules, inRange}
+use Rattle.layout.specs.Layout.{spaceFor}
 use Rattle.ranges.specs.Headers.{headerOf}
 
 -- a number in a range
@@ -89,8 +90,13 @@ rows-place-fits n h = omega (arith, square n h)
 area : (n c : ℕ) → n ≤ 16 → c ≤ 512 → c * (7 + n) ≤ 11776
 area n c h k = let w : 7 + n ≤ 23 = omega arith in mul-le-mul k w
 
-pub area-fits : (n c : ℕ) → n ≤ 16 → c ≤ 512 → Fits w64 (c * (7 + n))
-area-fits n c h k = omega (arith, area n c h k)
+-- the number of rows as a place
+module _ (n capacity c : ℕ) (h : n ≤ 16) (k : capacity ≤ 512) (e : c ≡ capacity) where
+  pub area-fits : Fits w64 (c * (7 + n))
+  area-fits = rw e (omega (arith, area n capacity h k))
 
-pub space-fits : (n c : ℕ) → n ≤ 16 → c ≤ 512 → Fits w64 (103 + n + n * n + c * (7 + n))
-space-fits n c h k = omega (arith, area n c h k, square n h)
+  pub space-fits : Fits w64 (103 + n + n * n + c * (7 + n))
+  space-fits = rw e (omega (arith, area n capacity h k, square n h))
+
+  pub space-is : 103 + n + n * n + c * (7 + n) ≡ spaceFor n capacity
+  space-is = rw e refl

@@ -5,6 +5,8 @@ ghost use Rattle.meaning.specs.Tests.{between, every};
 ghost use Rattle.meaning.specs.Table.{greatestKind, greatestSize, inRange};
 ghost use Rattle.layout.specs.Layout.{spaceFor};
 ghost use Rattle.ranges.specs.Headers.{headerOf};
+use layout::CLOCK_AT;
+use layout::KEY;
 use tags::RowCount;
 use tags::Station;
 
@@ -15,11 +17,6 @@ const GREATEST_CAPACITY: usize = 512;
 const MOST_OBJECTS: usize = 32;
 
 const GREATEST_KIND: u8 = 9;
-
-// Where the clock of a table stands, and a row's words before its vector.
-const CLOCK_AT: usize = 103;
-
-const KEY: usize = 7;
 
 // Whether a number is from 1 to the greatest.
 fn in_range(number: usize, greatest: usize) -> bool
@@ -83,9 +80,9 @@ pub fn header_ok(size: u32, own: Station, capacity: RowCount, kinds: &[u8]) -> b
 }
 
 // How many words a table needs.
-pub fn space_for(size: usize, capacity: usize) -> usize
-    requires { ⌜ (size ≤ 16) × (capacity ≤ 512) ⌝ }
-    ensures { λ r. ⌜ r ≡ spaceFor size capacity ⌝ }
+pub fn space_for(size: usize, capacity: RowCount) -> usize
+    requires { ⌜ (size ≤ 16) × (capacity .0 ≤ 512) ⌝ }
+    ensures { λ r. ⌜ r ≡ spaceFor size (capacity .0) ⌝ }
 {
-    CLOCK_AT + size + size * size + capacity * (KEY + size)
+    CLOCK_AT + size + size * size + tags::wide(capacity.0) * (KEY + size)
 }

@@ -176,14 +176,14 @@ module _ (h : Header) (kinds : List ℕ) (r : Bool) (e : r ≡ inRange (headerFr
   unfolding headerRules
   opening-few size q = rw q (between-out 1 16 (h .size) (and-left size-kept (own-kept && (count-kept && (kinds-kept && (capacity-kept && true)))) rules) .1)
 
-  pub opening-small : (capacity : ℕ) → capacity ≡ h .capacity .0 → capacity ≤ 512
+  pub opening-small : h .capacity .0 ≤ 512
   unfolding headerRules
-  opening-small capacity q =
+  opening-small =
       let past-size = and-right size-kept (own-kept && (count-kept && (kinds-kept && (capacity-kept && true)))) rules in
       let past-own = and-right own-kept (count-kept && (kinds-kept && (capacity-kept && true))) past-size in
       let past-count = and-right count-kept (kinds-kept && (capacity-kept && true)) past-own in
       let past-kinds = and-right kinds-kept (capacity-kept && true) past-count in
-      rw q (between-out 1 512 (h .capacity .0) (and-left capacity-kept true past-kinds) .1)
+      between-out 1 512 (h .capacity .0) (and-left capacity-kept true past-kinds) .1
 
 -- the refusal of an opening
 module _ (h : Header) (kinds : List ℕ) (space : ℕ) (a : Bool) (ea : a ≡ inRange (headerFrom h kinds)) where
@@ -194,9 +194,9 @@ module _ (h : Header) (kinds : List ℕ) (space : ℕ) (a : Bool) (ea : a ≡ in
   unfolding openingRefusals
   opening-range t = rw (sym ea ∙ t) refl
 
-  module _ (ta : a ≡ true) (size capacity needed : ℕ) (es : size ≡ h .size) (ec : capacity ≡ h .capacity .0) (en : needed ≡ spaceFor size capacity) where
+  module _ (ta : a ≡ true) (size needed : ℕ) (es : size ≡ h .size) (en : needed ≡ spaceFor size (h .capacity .0)) where
     needs : needed ≡ spaceFor (h .size) (h .capacity .0)
-    needs = en ∙ rw (es, ec) refl
+    needs = en ∙ rw es refl
 
     pub opening-space : space < needed → 13 ≡ opens
     unfolding openingRefusals

@@ -155,7 +155,7 @@ pub fn opening_refusal(h: Header, kinds: &[u8], space: usize) -> u32
     if !ranges::header_ok(h.size, own, capacity, kinds) {
         return UNOPENED;
     }
-    if space < ranges::space_for(tags::wide(h.size), tags::wide(capacity.0)) {
+    if space < ranges::space_for(tags::wide(h.size), capacity) {
         return UNOPENED;
     }
     NONE

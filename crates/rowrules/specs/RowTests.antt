@@ -39,10 +39,14 @@ kindOfRow kinds row = getD kinds (getD row 0 0) 0
 unfoldable pub rowKept : List ℕ → Vector → List ℕ → Bool
 rowKept kinds clock row = contentKept (kindOfRow kinds row) (rowOf row .operation) && tagKept (kindOfRow kinds row) clock row
 
+-- A row repeats another when its object and value, the first three words, are the same.
+abbrev pub repeats : List ℕ → List ℕ → Bool
+repeats before row = same (take 3 before) (take 3 row)
+
 -- What they ask of a row and the one before it: "rows in strict order", and "kind 4 one row a value".
 unfoldable pub follows : List ℕ → List ℕ → List ℕ → Bool
 follows kinds before row =
-    not (eqb (kindOfRow kinds row) twoPhaseSet && same (take 3 before) (take 3 row))
+    not (eqb (kindOfRow kinds row) twoPhaseSet && repeats before row)
     && lowerKey (take 7 before) (take 7 row)
 
 -- A test of each element with the next.

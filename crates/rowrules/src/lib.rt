@@ -7,7 +7,7 @@ ghost use Rattle.meaning.specs.Table.{storable};
 ghost use Rattle.layout.specs.Words.{allZero, pieces};
 ghost use Rattle.layout.specs.Layout.{rowOf, rowWidth};
 ghost use Rattle.placing.specs.Placing.{keyWords};
-ghost use Rattle.rowrules.specs.RowTests.{chained, contentKept, follows, numberKept, rowKept, rowsKept, unsettledKept};
+ghost use Rattle.rowrules.specs.RowTests.{chained, contentKept, follows, numberKept, repeats, rowKept, rowsKept, unsettledKept};
 use layout::CODE_AT;
 use layout::HIGH_AT;
 use layout::KEY;
@@ -180,13 +180,21 @@ fn each_ok(rows: &[u32], width: usize, count: RowCount, kinds: &[u32], clock: &[
     good
 }
 
+// Whether two rows are of the same object and value.
+fn has_same_value(before: &[u32], row: &[u32]) -> bool
+    requires { ⌜ (length (now before) ≡ keyWords) × (length (now row) ≡ keyWords) ⌝ }
+    ensures { λ r. ⌜ r ≡ repeats (now (before .entry)) (now (row .entry)) ⌝ }
+{
+    tags::same(&before[OBJECT_AT..CODE_AT], &row[OBJECT_AT..CODE_AT])
+}
+
 // Whether a row may come next after another, by the first seven words of each.
 fn may_follow(before: &[u32], row: &[u32], kinds: &[u32]) -> bool
     requires { ⌜ (length (now before) ≡ keyWords) × (length (now row) ≡ keyWords) ⌝ }
     ensures { λ r. ⌜ r ≡ follows (now (kinds .entry)) (now (before .entry)) (now (row .entry)) ⌝ }
 {
     if kind_of(kinds, row[OBJECT_AT]) == TWO_PHASE_SET {
-        if tags::same(&before[OBJECT_AT..CODE_AT], &row[OBJECT_AT..CODE_AT]) {
+        if has_same_value(before, row) {
             return false;
         }
     }

@@ -1,7 +1,7 @@
 -- The head of a table, by its words.
 use Prim.Native.Nat.{ℕ, _+_, _-_, _*_, _≤_, _<_}
 use mathlib.Core.Path.{_≡_, refl, sym, _∙_}
-use mathlib.Core.Bool.{Bool, true, false, not, _&&_}
+use mathlib.Core.Bool.{Bool, true, false, not, _&&_, and-false}
 use mathlib.Core.List.{List}
 use native.Mathlib.Nat.{mul-le-mul}
 use native.Mathlib.Omega.{arith}
@@ -56,26 +56,31 @@ module _ (n capacity c : ℕ) (h : n ≤ 16) (k : capacity ≤ 512) (e : c ≡ c
     pub space-is : r ≡ 103 + n + n * n → r + c * (7 + n) ≡ spaceFor n capacity
     space-is q = rw (e, q) refl
 
--- the numbers of the head
-module _ (size own capacity objects count : ℕ) (a : Bool) (ea : a ≡ between 1 16 size) where
-  pub sizes-size : a ≡ false → false ≡ sizesKept size own capacity objects count
+-- the numbers of the head: a test that fails decides, whatever the ones before it say
+past-two : (a b : Bool) → false ≡ (a && (b && false))
+past-two true b = sym (and-false b)
+past-two false b = refl
+
+past-three : (a b c : Bool) → false ≡ (a && (b && (c && false)))
+past-three true b c = past-two b c
+past-three false b c = refl
+
+module _ (size own capacity objects count : ℕ) where
+  pub sizes-size : (a : Bool) → a ≡ between 1 16 size → a ≡ false → false ≡ sizesKept size own capacity objects count
   unfolding sizesKept
-  sizes-size h = rw (sym ea ∙ h) refl
+  sizes-size a e h = rw (sym e ∙ h) refl
 
-  module _ (ha : a ≡ true) where
-    pub sizes-own : size ≤ own → false ≡ sizesKept size own capacity objects count
-    unfolding sizesKept
-    sizes-own h = rw (sym ea ∙ ha, le-ltb own size h) refl
+  pub sizes-own : size ≤ own → false ≡ sizesKept size own capacity objects count
+  unfolding sizesKept
+  sizes-own h = rw (le-ltb own size h) (sym (and-false (between 1 16 size)))
 
-    module _ (o : own < size) (b : Bool) (eb : b ≡ between 1 512 capacity) where
-      pub sizes-capacity : b ≡ false → false ≡ sizesKept size own capacity objects count
-      unfolding sizesKept
-      sizes-capacity h = rw (sym ea ∙ ha, lt-ltb own size o, sym eb ∙ h) refl
+  pub sizes-capacity : (b : Bool) → b ≡ between 1 512 capacity → b ≡ false → false ≡ sizesKept size own capacity objects count
+  unfolding sizesKept
+  sizes-capacity b e h = rw (sym e ∙ h) (past-two (between 1 16 size) (ltb own size))
 
-      module _ (hb : b ≡ true) (c : Bool) (ec : c ≡ between 1 32 objects) where
-        pub sizes-objects : c ≡ false → false ≡ sizesKept size own capacity objects count
-        unfolding sizesKept
-        sizes-objects h = rw (sym ea ∙ ha, lt-ltb own size o, sym eb ∙ hb, sym ec ∙ h) refl
+  pub sizes-objects : (c : Bool) → c ≡ between 1 32 objects → c ≡ false → false ≡ sizesKept size own capacity objects count
+  unfolding sizesKept
+  sizes-objects c e h = rw (sym e ∙ h) (past-three (between 1 16 size) (ltb own size) (between 1 512 capacity))
 
 -- a test that did not leave
 pub passed-test : (r x : Bool) → r ≡ x → not r ≡ false → x ≡ true

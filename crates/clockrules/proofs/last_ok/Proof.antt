@@ -1,5 +1,6 @@
 -- `clockrules::last_ok` meets its contract: the own vector, then another station's.
 use Rattle.clockrules.proofs.Totals.{last-own, last-differs, last-below}
+use native.Mathlib.Omega.{arith}
 use borrow.Author.Needs.{needs}
 use Rattle.clockrules.proofs.last_ok.Statement.{statement}
 use Rattle.clockrules.proofs.last_ok.Tie as tie
@@ -8,7 +9,10 @@ returns : tie.Need-returns
 returns c = search last-own
 
 returns-2 : tie.Need-returns-2
-returns-2 c = search last-differs
+returns-2 c =
+    let known = c .before .before .before .number-at2 in
+    let last = c .before .before .before .before .number-at in
+    last-differs _ _ _ _ (c .before .before .before .before .before .if1 .left) _ _ (last .ensures) (known .ensures) (omega arith)
 
 returns-3 : tie.Need-returns-3
 returns-3 c = search last-below

@@ -20,7 +20,7 @@ find-place-requires : tie.Need-find-place-requires
 find-place-requires c κs = search needs
 
 move-up-requires : tie.Need-move-up-requires
-move-up-requires c κs = (search place-below, search row-room)
+move-up-requires c κs = (search (place-below, arith), search row-room)
 
 put-requires : tie.Need-put-requires
 put-requires c κs = search key-room

@@ -24,7 +24,6 @@ opening-refusal-spec =
     (λ c κs. search needs)
     returns
     (λ c κs. search needs)
-    (λ c κs. search needs)
     space-for-requires
     returns-2
     returns-3)

@@ -1,6 +1,7 @@
 -- `rules::sizes_ok` meets its contract: each way out is one part of the test.
-use borrow.Author.Tests.{not-true, not-false}
+use borrow.Author.Tests.{not-true}
 use Rattle.rules.proofs.Heading.{sizes-size, sizes-own, sizes-capacity, sizes-objects, sizes-count, passed-test}
+use native.Mathlib.Omega.{arith}
 use borrow.Author.Needs.{needs}
 use Rattle.rules.proofs.sizes_ok.Statement.{statement}
 use Rattle.rules.proofs.sizes_ok.Tie as tie
@@ -9,13 +10,13 @@ returns : tie.Need-returns
 returns c = search (sizes-size, not-true)
 
 returns-2 : tie.Need-returns-2
-returns-2 c = search (sizes-own, not-false)
+returns-2 c = sizes-own _ _ _ _ _ (omega arith)
 
 returns-3 : tie.Need-returns-3
-returns-3 c = search (sizes-capacity, not-true, not-false)
+returns-3 c = search (sizes-capacity, not-true)
 
 returns-4 : tie.Need-returns-4
-returns-4 c = search (sizes-objects, not-true, not-false)
+returns-4 c = search (sizes-objects, not-true)
 
 returns-5 : tie.Need-returns-5
 returns-5 c =
