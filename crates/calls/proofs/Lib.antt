@@ -1,4 +1,5 @@
 pub mod Settling
+pub mod Falling
 pub mod Opening
 pub mod Asking
 pub mod Receiving

@@ -1,8 +1,10 @@
 -- The calls: what each answers to a line, and the space afterwards.
+use mathlib.Core.Path.{_≡_}
 use mathlib.Core.List.{List, [], _∷_, _++_}
-use Prim.Native.Nat.{ℕ}
+use Prim.Native.Nat.{ℕ, _+_}
 use lib.ListN.{drop, length, take}
 use Rattle.meaning.specs.Operations as meant
+use Rattle.meaning.specs.Rows.{unsettledCount}
 use Rattle.meaning.specs.Table.{Header, Table}
 use Rattle.meaning.specs.Refusals.{Frame, Local}
 use Rattle.meaning.specs.Calls as meaning
@@ -90,6 +92,11 @@ settledOn line words =
 
 unfoldable pub settledBy : List ℕ → List ℕ → Settled × List ℕ
 settledBy line words = pick (holdsTable words) (settledOn line words) (settled.Refused 14, words)
+
+-- "That number equals the fall in unsettled rows."
+unfoldable pub fallen : Settled → List ℕ → List ℕ → Type 0
+fallen (settled.Refused number) before after = before ≡ after
+fallen (settled.Steps count) before after = count .0 + unsettledCount (tableOf after .rows) ≡ unsettledCount (tableOf before .rows)
 
 -- The frame that an operation line says: of its vector as many entries as its N.
 unfoldable pub frameOf : Operation → Frame

@@ -6,7 +6,7 @@ ghost use Rattle.meaning.specs.Calls.{issue, openTable, receive};
 ghost use Rattle.layout.specs.Layout.{spaceFor, tableOf};
 ghost use Rattle.checked.specs.Checked.{Checked};
 ghost use Rattle.ranges.specs.Headers.{headerOf};
-ghost use Rattle.calls.specs.Calls.{frameOf, issuedAs, issuedBy, issuedOn, localOf, openedAs, openedBy, receivedAs, receivedBy, receivedOn, repliedBy, repliedOn, settledBy, settledOn};
+ghost use Rattle.calls.specs.Calls.{fallen, frameOf, issuedAs, issuedBy, issuedOn, localOf, openedAs, openedBy, receivedAs, receivedBy, receivedOn, repliedBy, repliedOn, settledBy, settledOn};
 use asks::Reply;
 use refusals::Header;
 use refusals::Sent;
@@ -178,9 +178,9 @@ fn settle_line(space: &mut [u32], line: &[u8]) -> Settled
     Settled::Refused(MISSHAPEN)
 }
 
-// "Settling passes 14, 1".
+// "Settling passes 14, 1"; the steps that it reports are the fall in unsettled rows.
 pub fn settle(space: &mut [u32], line: &[u8]) -> Settled
-    ensures { λ r. ⌜ (r, now (space .exit)) ≡ settledBy (now (line .entry)) (now (space .entry)) ⌝ }
+    ensures { λ r. ⌜ ((r, now (space .exit)) ≡ settledBy (now (line .entry)) (now (space .entry))) × fallen r (now (space .entry)) (now (space .exit)) ⌝ }
 {
     if rules::is_table(space) {
         return settle_line(space, line);

@@ -1,3 +1,4 @@
+use Rattle.calls.proofs.Falling.{table-falls, no-table-falls}
 use Rattle.calls.proofs.Settling.{found, settle-no-table, settle-table}
 use native.Mathlib.Omega.{arith}
 use borrow.Author.Needs.{needs}
@@ -18,13 +19,13 @@ same-length : tie.Need-same-length
 same-length c = search needs
 
 returns : tie.Need-returns
-returns c = search settle-table
+returns c = (search settle-table, search table-falls)
 
 same-length-2 : tie.Need-same-length-2
 same-length-2 c = search needs
 
 returns-2 : tie.Need-returns-2
-returns-2 c = search settle-no-table
+returns-2 c = (search settle-no-table, search no-table-falls)
 
 pub settle-spec : {M : Type 1} → statement M
 settle-spec =
