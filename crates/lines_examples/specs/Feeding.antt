@@ -42,7 +42,7 @@ groupFed space have stations (b ∷ piece) = groupFed (taken space have b .1) (t
 unfoldable pub lineOn : List ℕ → ℕ → List ℕ
 lineOn line b = pick (eqb b lf) [] (line ++ (b ∷ []))
 
--- the group's size after it: the whole line is answered
+-- the group's size after it, by the whole line
 unfoldable pub groupOn : List ℕ → ℕ → ℕ → ℕ
 groupOn line stations b = pick (eqb b lf) (groupAfter stations (line ++ (b ∷ []))) stations
 
@@ -67,7 +67,7 @@ pub record Keeps (line space : List ℕ) (have : ℕ) : Type 0 where
   pub open-ended : NoLf line
   pub same : (have, space) ≡ keptAll empty 0 line
 
--- what is answered is whole lines: of whatever line the characters in the space were kept
+-- the group's size is that after whole lines, of whatever line the characters in the space were kept
 abbrev pub WholeLines : List ℕ → ℕ → ℕ → List ℕ → ℕ → Type 0
 WholeLines space have stations piece after = (line : List ℕ) → Keeps line space have → after ≡ afterLines line stations piece
 

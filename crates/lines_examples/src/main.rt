@@ -8,7 +8,7 @@ use libc::STDIN_FILENO;
 use libc::STDOUT_FILENO;
 use writing::Written;
 
-// The characters of the longest line. Of a longer one so many are kept, which get the same answer (law `line-answered`, in the promise of `feed`).
+// The characters of the longest line. Of a longer one so many are kept, which read as the whole line does (law `line-answered`, by which `feed` keeps its promise).
 const LINE: usize = 2 * lines::LONGEST + 1;
 
 // What the answers at the end say: the refusal of a space that holds no table, a flag that is on, steps taken, and the total -7 in its two words.
