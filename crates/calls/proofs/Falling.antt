@@ -18,10 +18,12 @@ use Rattle.arrivals.proofs.Kept.{table-back}
 use Rattle.hexes.specs.Choice.{pick}
 use Rattle.lines.specs.Named.{settlingRead}
 use Rattle.heard.specs.Hearing.{bytesOf}
-use Rattle.calls.specs.declared.Settled.{Settled}
-use Rattle.calls.specs.declared.Settled.the-variants as settled
-use Rattle.calls.specs.Calls.{fallen, settledAs, settledOn, settledBy}
-use Rattle.calls.proofs.Settling.{limit-read, heard-bytes, settle-table, settle-no-table}
+use Rattle.spoken.specs.declared.Settled.{Settled}
+use Rattle.spoken.specs.declared.Settled.the-variants as settled
+use Rattle.spoken.specs.Spoken.{settledAs, settledOn}
+use Rattle.spoken.proofs.Settling.{limit-read, heard-bytes}
+use Rattle.calls.specs.Calls.{fallen, settledBy}
+use Rattle.calls.proofs.Tested.{settle-table, settle-no-table}
 
 -- what an answer and the words after it say of the words before
 abbrev Falls : List ℕ → Settled × List ℕ → Type 0

@@ -1,7 +1,3 @@
-pub mod Settling
+pub mod Tested
 pub mod Falling
-pub mod Opening
-pub mod Asking
-pub mod Receiving
-pub mod Issuing
 pub mod Station

@@ -33,17 +33,18 @@ use Rattle.hexes.specs.Hex.{hexLine}
 use Rattle.writing.specs.Writing.{lineWritten}
 use Rattle.lines.specs.Named.{issueRead, openingRead, operationRead, questionRead, settlingRead}
 use Rattle.heard.specs.Hearing.{bytesOf}
-use Rattle.calls.specs.declared.Opened.{Opened}
-use Rattle.calls.specs.declared.Opened.the-variants as called
-use Rattle.calls.specs.declared.Received.the-variants as received
-use Rattle.calls.specs.declared.Issued.the-variants as issued
-use Rattle.calls.specs.declared.Settled.the-variants as settled
+use Rattle.spoken.specs.declared.Opened.{Opened}
+use Rattle.spoken.specs.declared.Opened.the-variants as called
+use Rattle.spoken.specs.declared.Received.the-variants as received
+use Rattle.spoken.specs.declared.Issued.the-variants as issued
+use Rattle.spoken.specs.declared.Settled.the-variants as settled
 use Rattle.calls.specs.Calls as calls
-use Rattle.calls.specs.Calls.{frameBytes, frameOf, framedAs, headerRead, issuedAs, issuedOn, localOf, openedAs, openedBy, repliedBy, repliedOn, receivedAs, receivedBy, receivedOn, settledAs, settledBy, settledOn}
+use Rattle.spoken.specs.Spoken.{frameBytes, frameOf, framedAs, headerRead, issuedAs, issuedOn, localOf, openedAs, openedBy, repliedOn, receivedAs, receivedOn, settledAs, settledOn}
+use Rattle.calls.specs.Calls.{repliedBy, receivedBy, settledBy}
 use Rattle.calls.specs.Station.{Call, receives, issues, settles, wordsAfter, wordsAfterAll, frameFits, eventsOf, eventsOfAll}
-use Rattle.calls.proofs.Settling.{limit-read, heard-bytes}
-use Rattle.calls.proofs.Opening.{open-ranges}
-use Rattle.calls.proofs.Receiving.{picked}
+use Rattle.spoken.proofs.Settling.{limit-read, heard-bytes}
+use Rattle.spoken.proofs.Opening.{open-ranges}
+use Rattle.spoken.proofs.Receiving.{picked}
 
 -- the space holds the table that a station has
 pub record Holds (words : List ℕ) (station : Station) : Type 0 where

@@ -1,116 +1,21 @@
 // The public calls over a lent table space and a lent line. Each tries its refusals in 01's order, and a refusal changes nothing.
 ghost use mathlib.Core.Path.{_≡_};
-ghost use Prim.Native.Nat.{_≤_};
-ghost use lib.ListN.{length, take};
-ghost use Rattle.meaning.specs.Calls.{issue, openTable, receive};
-ghost use Rattle.layout.specs.Layout.{spaceFor, tableOf};
-ghost use Rattle.checked.specs.Checked.{Checked};
-ghost use Rattle.ranges.specs.Headers.{headerOf};
-ghost use Rattle.calls.specs.Calls.{fallen, frameOf, issuedAs, issuedBy, issuedOn, localOf, openedAs, openedBy, receivedAs, receivedBy, receivedOn, repliedBy, repliedOn, settledBy, settledOn};
+ghost use Rattle.spoken.specs.Spoken.{openedBy};
+ghost use Rattle.calls.specs.Calls.{fallen, issuedBy, receivedBy, repliedBy, settledBy};
 use asks::Reply;
-use refusals::Header;
-use refusals::Sent;
-use tags::RowCount;
-use tags::Station;
-use writing::Written;
+use spoken::Issued;
+use spoken::Opened;
+use spoken::Received;
+use spoken::Settled;
 
-// The refusals that every call tries itself: no table in the space, and a line that is not of the call's type and shape.
+// The space holds no table.
 const NO_TABLE: u32 = 14;
-
-const MISSHAPEN: u32 = 1;
-
-// The frame space is shorter than the frame.
-const NO_ROOM: u32 = 10;
-
-// What an opening answers: a refusal's number, or nothing but that the table is fresh.
-pub enum Opened {
-    Refused(u32),
-    Fresh,
-}
-
-// What a frame gets: a refusal's number, or nothing but that it is accepted.
-pub enum Received {
-    Refused(u32),
-    Accepted,
-}
-
-// What a local operation gets: a refusal's number, or how many characters its frame's line has in the lent space.
-pub enum Issued {
-    Refused(u32),
-    Frame(usize),
-}
-
-// What a settling call answers: a refusal's number, or how many steps it took.
-pub enum Settled {
-    Refused(u32),
-    Steps(RowCount),
-}
-
-// Opens a table with these numbers and kinds, if they are in range and the space is large enough.
-fn open_with(space: &mut [u32], asked: lines::Opening, kinds: &[u8]) -> Opened
-    ensures { λ r. ⌜ (r, now (space .exit)) ≡ openedAs (now (space .entry)) (openTable (length (now (space .entry))) (spaceFor (asked .stations) (asked .capacity)) (headerOf (asked .stations) (asked .own) (asked .capacity) (now (kinds .entry)))) ⌝ }
-{
-    let own = Station(asked.own);
-    let capacity = RowCount(asked.capacity);
-    let h = Header {
-        size: asked.stations,
-        own,
-        capacity,
-    };
-    let refusal = refusals::opening_refusal(h, kinds, space.len());
-    if refusal != refusals::NONE {
-        return Opened::Refused(refusal);
-    }
-    opening::lay_table(space, asked.stations, own, capacity, kinds);
-    Opened::Fresh
-}
 
 // "opening 1, 13": any space will do, one that holds a table too.
 pub fn open(space: &mut [u32], line: &[u8]) -> Opened
     ensures { λ r. ⌜ (r, now (space .exit)) ≡ openedBy (now (line .entry)) (now (space .entry)) ⌝ }
 {
-    let mut bytes = [0u8; lines::LONGEST];
-    let n = heard::hear(line, &mut bytes);
-    let asked = lines::read_opening(&bytes[0..n]);
-    if asked.ok {
-        return open_with(space, asked, &bytes[lines::KINDS_PLACE..n]);
-    }
-    Opened::Refused(MISSHAPEN)
-}
-
-// A frame that was read from its line.
-fn receive_read(space: &mut [u32], f: lines::Operation) -> Received
-    requires { ⌜ Checked (now space) × (f .stations ≤ 16) × (length (take (f .stations) (f .vector)) ≡ f .stations) ⌝ }
-    ensures { λ r. ⌜ (r, now (space .exit)) ≡ receivedAs (now (space .entry)) (receive (tableOf (now (space .entry))) (frameOf f)) ⌝ }
-{
-    if f.stations != space[layout::SIZE_AT] {
-        return Received::Refused(MISSHAPEN);
-    }
-    let sent = Sent {
-        sender: Station(f.sender),
-        object: f.object,
-        code: f.code,
-        value: f.value,
-    };
-    let end = tags::wide(f.stations);
-    let vector = f.vector;
-    let refusal = receives::receive_frame(space, sent, &vector[0..end]);
-    if refusal != refusals::NONE {
-        return Received::Refused(refusal);
-    }
-    Received::Accepted
-}
-
-// A frame's line to a table that was checked.
-fn receive_line(space: &mut [u32], line: &[u8]) -> Received
-    requires { ⌜ Checked (now space) ⌝ }
-    ensures { λ r. ⌜ (r, now (space .exit)) ≡ receivedOn (now (line .entry)) (now (space .entry)) ⌝ }
-{
-    let f = heard::operation(line);
-    if f.ok {
-        return receive_read(space, f);
-    }
-    Received::Refused(MISSHAPEN)
+    spoken::open_line(space, line)
 }
 
 // "A frame passes 14, 1 to 7, 8".
@@ -118,42 +23,9 @@ pub fn receive(space: &mut [u32], line: &[u8]) -> Received
     ensures { λ r. ⌜ (r, now (space .exit)) ≡ receivedBy (now (line .entry)) (now (space .entry)) ⌝ }
 {
     if rules::is_table(space) {
-        return receive_line(space, line);
+        return spoken::receive_line(space, line);
     }
     Received::Refused(NO_TABLE)
-}
-
-// A local operation that was read from its line: its frame is written before the table takes it, so that a short space changes nothing.
-fn issue_read(space: &mut [u32], f: lines::Issue, out: &mut [u8]) -> Issued
-    requires { ⌜ Checked (now space) ⌝ }
-    ensures { λ r. ⌜ (r, (now (space .exit), now (out .exit))) ≡ issuedAs (now (space .entry)) (now (out .entry)) (issue (tableOf (now (space .entry))) (localOf f)) ⌝ }
-{
-    let refusal = issues::issue_number(space, f.object, f.code, f.value);
-    if refusal != refusals::NONE {
-        return Issued::Refused(refusal);
-    }
-    let size = tags::wide(space[layout::SIZE_AT]);
-    let own = space[layout::OWN_AT];
-    let vector = issues::next_vector(space);
-    match printed::write_operation(out, own, f.object, f.code, f.value, &vector[0..size]) {
-        Written::Characters(n) => {
-            issues::take_local(space, f.object, f.code, f.value);
-            Issued::Frame(n)
-        }
-        Written::TooShort => Issued::Refused(NO_ROOM),
-    }
-}
-
-// An issue's line to a table that was checked.
-fn issue_line(space: &mut [u32], line: &[u8], out: &mut [u8]) -> Issued
-    requires { ⌜ Checked (now space) ⌝ }
-    ensures { λ r. ⌜ (r, (now (space .exit), now (out .exit))) ≡ issuedOn (now (line .entry)) (now (space .entry)) (now (out .entry)) ⌝ }
-{
-    let f = heard::issue(line);
-    if f.ok {
-        return issue_read(space, f, out);
-    }
-    Issued::Refused(MISSHAPEN)
 }
 
 // "A local operation passes 14, 1, 3, 4, 9, 8, 10": the frame's line goes into the lent space.
@@ -161,21 +33,9 @@ pub fn issue(space: &mut [u32], line: &[u8], out: &mut [u8]) -> Issued
     ensures { λ r. ⌜ (r, (now (space .exit), now (out .exit))) ≡ issuedBy (now (line .entry)) (now (space .entry)) (now (out .entry)) ⌝ }
 {
     if rules::is_table(space) {
-        return issue_line(space, line, out);
+        return spoken::issue_line(space, line, out);
     }
     Issued::Refused(NO_TABLE)
-}
-
-// A settling line to a table that was checked.
-fn settle_line(space: &mut [u32], line: &[u8]) -> Settled
-    requires { ⌜ Checked (now space) ⌝ }
-    ensures { λ r. ⌜ (r, now (space .exit)) ≡ settledOn (now (line .entry)) (now (space .entry)) ⌝ }
-{
-    let asked = heard::settling(line);
-    if asked.ok {
-        return Settled::Steps(settles::settle_table(space, RowCount(asked.limit)));
-    }
-    Settled::Refused(MISSHAPEN)
 }
 
 // "Settling passes 14, 1"; the steps that it reports are the fall in unsettled rows.
@@ -183,21 +43,9 @@ pub fn settle(space: &mut [u32], line: &[u8]) -> Settled
     ensures { λ r. ⌜ ((r, now (space .exit)) ≡ settledBy (now (line .entry)) (now (space .entry))) × fallen r (now (space .entry)) (now (space .exit)) ⌝ }
 {
     if rules::is_table(space) {
-        return settle_line(space, line);
+        return spoken::settle_line(space, line);
     }
     Settled::Refused(NO_TABLE)
-}
-
-// A question to a table that was checked.
-fn ask_line(space: &[u32], line: &[u8], out: &mut [u32]) -> Reply
-    requires { ⌜ Checked (now space) ⌝ }
-    ensures { λ r. ⌜ (r, now (out .exit)) ≡ repliedOn (now (line .entry)) (now (space .entry)) (now (out .entry)) ⌝ }
-{
-    let asked = heard::question(line);
-    if asked.ok {
-        return asks::ask_table(space, asked.object, asked.question, asked.value, out);
-    }
-    Reply::Refused(MISSHAPEN)
 }
 
 // "A question passes 14, 1, 3, 12, 11": the table is only looked at, and a list goes into the lent space.
@@ -205,7 +53,7 @@ pub fn ask(space: &[u32], line: &[u8], out: &mut [u32]) -> Reply
     ensures { λ r. ⌜ (r, now (out .exit)) ≡ repliedBy (now (line .entry)) (now (space .entry)) (now (out .entry)) ⌝ }
 {
     if rules::is_table(space) {
-        return ask_line(space, line, out);
+        return spoken::ask_line(space, line, out);
     }
     Reply::Refused(NO_TABLE)
 }

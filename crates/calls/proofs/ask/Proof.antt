@@ -1,12 +1,12 @@
-use Rattle.calls.proofs.Settling.{found}
-use Rattle.calls.proofs.Asking.{ask-no-table, ask-table}
+use Rattle.calls.proofs.Tested.{found}
+use Rattle.calls.proofs.Tested.{ask-no-table, ask-table}
 use native.Mathlib.Omega.{arith}
 use borrow.Author.Needs.{needs}
 use Rattle.calls.proofs.ask.Statement.{statement}
 use Rattle.calls.proofs.ask.Tie as tie
 use Rattle.calls.proofs.ask.Reads as reads
 use Rattle.calls.proofs.ask.Lts as lts
-use Rattle.calls.proofs.ask_line.Reads as ask-line-reads
+use Rattle.spoken.proofs.ask_line.Reads as ask-line-reads
 use Rattle.rules.proofs.is_table.Reads as is-table-reads
 
 is-table-requires : tie.Need-is-table-requires

@@ -1,12 +1,12 @@
-use Rattle.calls.proofs.Settling.{found}
-use Rattle.calls.proofs.Issuing.{issue-no-table, issue-table}
+use Rattle.calls.proofs.Tested.{found}
+use Rattle.calls.proofs.Tested.{issue-no-table, issue-table}
 use native.Mathlib.Omega.{arith}
 use borrow.Author.Needs.{needs}
 use Rattle.calls.proofs.issue.Statement.{statement}
 use Rattle.calls.proofs.issue.Tie as tie
 use Rattle.calls.proofs.issue.Reads as reads
 use Rattle.calls.proofs.issue.Lts as lts
-use Rattle.calls.proofs.issue_line.Reads as issue-line-reads
+use Rattle.spoken.proofs.issue_line.Reads as issue-line-reads
 use Rattle.rules.proofs.is_table.Reads as is-table-reads
 
 is-table-requires : tie.Need-is-table-requires

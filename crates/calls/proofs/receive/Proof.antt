@@ -1,12 +1,12 @@
-use Rattle.calls.proofs.Settling.{found}
-use Rattle.calls.proofs.Receiving.{receive-no-table, receive-table}
+use Rattle.calls.proofs.Tested.{found}
+use Rattle.calls.proofs.Tested.{receive-no-table, receive-table}
 use native.Mathlib.Omega.{arith}
 use borrow.Author.Needs.{needs}
 use Rattle.calls.proofs.receive.Statement.{statement}
 use Rattle.calls.proofs.receive.Tie as tie
 use Rattle.calls.proofs.receive.Reads as reads
 use Rattle.calls.proofs.receive.Lts as lts
-use Rattle.calls.proofs.receive_line.Reads as receive-line-reads
+use Rattle.spoken.proofs.receive_line.Reads as receive-line-reads
 use Rattle.rules.proofs.is_table.Reads as is-table-reads
 
 is-table-requires : tie.Need-is-table-requires

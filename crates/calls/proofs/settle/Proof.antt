@@ -1,12 +1,12 @@
 use Rattle.calls.proofs.Falling.{table-falls, no-table-falls}
-use Rattle.calls.proofs.Settling.{found, settle-no-table, settle-table}
+use Rattle.calls.proofs.Tested.{found, settle-no-table, settle-table}
 use native.Mathlib.Omega.{arith}
 use borrow.Author.Needs.{needs}
 use Rattle.calls.proofs.settle.Statement.{statement}
 use Rattle.calls.proofs.settle.Tie as tie
 use Rattle.calls.proofs.settle.Reads as reads
 use Rattle.calls.proofs.settle.Lts as lts
-use Rattle.calls.proofs.settle_line.Reads as settle-line-reads
+use Rattle.spoken.proofs.settle_line.Reads as settle-line-reads
 use Rattle.rules.proofs.is_table.Reads as is-table-reads
 
 is-table-requires : tie.Need-is-table-requires

@@ -1,10 +1,10 @@
-use Rattle.calls.proofs.Opening.{open-refused, open-ranges, open-room, open-fresh}
+use Rattle.spoken.proofs.Opening.{open-refused, open-ranges, open-room, open-fresh}
 use native.Mathlib.Omega.{arith}
 use borrow.Author.Needs.{needs}
-use Rattle.calls.proofs.open_with.Statement.{statement}
-use Rattle.calls.proofs.open_with.Tie as tie
-use Rattle.calls.proofs.open_with.Reads as reads
-use Rattle.calls.proofs.open_with.Lts as lts
+use Rattle.spoken.proofs.open_with.Statement.{statement}
+use Rattle.spoken.proofs.open_with.Tie as tie
+use Rattle.spoken.proofs.open_with.Reads as reads
+use Rattle.spoken.proofs.open_with.Lts as lts
 use Rattle.opening.proofs.lay_table.Reads as lay-table-reads
 use Rattle.refusals.proofs.opening_refusal.Reads as opening-refusal-reads
 

@@ -1,12 +1,12 @@
 use Rattle.heard.proofs.Hearing.{heard-room}
-use Rattle.calls.proofs.Opening.{kinds-start, open-misshapen, open-heard}
+use Rattle.spoken.proofs.Opening.{kinds-start, open-misshapen, open-heard}
 use native.Mathlib.Omega.{arith}
 use borrow.Author.Needs.{needs}
-use Rattle.calls.proofs.open.Statement.{statement}
-use Rattle.calls.proofs.open.Tie as tie
-use Rattle.calls.proofs.open.Reads as reads
-use Rattle.calls.proofs.open.Lts as lts
-use Rattle.calls.proofs.open_with.Reads as open-with-reads
+use Rattle.spoken.proofs.open_line.Statement.{statement}
+use Rattle.spoken.proofs.open_line.Tie as tie
+use Rattle.spoken.proofs.open_line.Reads as reads
+use Rattle.spoken.proofs.open_line.Lts as lts
+use Rattle.spoken.proofs.open_with.Reads as open-with-reads
 use Rattle.heard.proofs.hear.Reads as hear-reads
 use Rattle.lines.proofs.read_opening.Reads as read-opening-reads
 
@@ -46,8 +46,8 @@ returns c = search open-heard
 returns-2 : tie.Need-returns-2
 returns-2 c = search open-misshapen
 
-pub open-spec : {M : Type 1} → statement M
-open-spec =
+pub open-line-spec : {M : Type 1} → statement M
+open-line-spec =
     tie.close
     (tie.spec
     hear-requires

@@ -13,7 +13,7 @@ use Rattle.meaning.specs.Refusals.{Local, refusalOfLocal, issuedBy}
 use Rattle.meaning.specs.Calls as meaning
 use Rattle.meaning.specs.Calls.{outcome, afterArrival}
 use Rattle.layout.specs.Words.{padded}
-use Rattle.layout.specs.Layout.{holdsTable, tableOf, rewritten, sizeIn, ownIn}
+use Rattle.layout.specs.Layout.{tableOf, rewritten, sizeIn, ownIn}
 use Rattle.table.specs.Changes.{entryBelowLimit}
 use Rattle.checked.specs.Checked.{Checked}
 use Rattle.refusals.specs.Fields.{localFrom}
@@ -28,11 +28,10 @@ use Rattle.lines.specs.Types.{lineOf, operation}
 use Rattle.lines.specs.Named.{issueRead}
 use Rattle.printed.specs.Printed.{printed}
 use Rattle.heard.specs.Hearing.{bytesOf}
-use Rattle.calls.specs.declared.Issued.{Issued}
-use Rattle.calls.specs.declared.Issued.the-variants as issued
-use Rattle.calls.specs.Calls as calls
-use Rattle.calls.specs.Calls.{localOf, frameBytes, framedAs, issuedAs, issuedOn}
-use Rattle.calls.proofs.Receiving.{picked}
+use Rattle.spoken.specs.declared.Issued.{Issued}
+use Rattle.spoken.specs.declared.Issued.the-variants as issued
+use Rattle.spoken.specs.Spoken.{localOf, frameBytes, framedAs, issuedAs, issuedOn}
+use Rattle.spoken.proofs.Receiving.{picked}
 
 -- a space that is too short stays
 isShort : Written → Bool
@@ -46,16 +45,6 @@ short-same space bytes r y e h = by (leb (length (hexLine bytes)) (length space)
     by : (b : Bool) → _≡_ {A = Written × List ℕ} (r, y) (pick b (written.Characters (length (hexLine bytes)), hexLine bytes ++ drop (length (hexLine bytes)) space) (written.TooShort, space)) → y ≡ space
     by true f = absurd (false≢true (sym (ap (λ (p : Written × List ℕ). isShort (p .0)) f) ∙ ap isShort h))
     by false f = ap (λ (p : Written × List ℕ). p .1) f
-
--- 14, or the operation to a table
-module _ (line words out : List ℕ) (b : Bool) (e : b ≡ holdsTable words) where
-  pub issue-no-table : b ≡ false → (issued.Refused 14, (words, out)) ≡ calls.issuedBy line words out
-  unfolding calls.issuedBy
-  issue-no-table f = rw (sym e ∙ f) refl
-
-  pub issue-table : b ≡ true → (r : Issued) (x y : List ℕ) → (r, (x, y)) ≡ issuedOn line words out → (r, (x, y)) ≡ calls.issuedBy line words out
-  unfolding calls.issuedBy
-  issue-table t r x y f = rw (sym e ∙ t) f
 
 module _ (line words out : List ℕ) (f : Issue) (a : f ≡ issueRead (bytesOf line)) where
   ok-is : (c : Bool) → f .ok ≡ c → issueRead (bytesOf line) .ok ≡ c

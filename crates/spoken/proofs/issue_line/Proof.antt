@@ -1,11 +1,11 @@
-use Rattle.calls.proofs.Issuing.{issue-misshapen, issue-shaped}
+use Rattle.spoken.proofs.Issuing.{issue-misshapen, issue-shaped}
 use native.Mathlib.Omega.{arith}
 use borrow.Author.Needs.{needs}
-use Rattle.calls.proofs.issue_line.Statement.{statement}
-use Rattle.calls.proofs.issue_line.Tie as tie
-use Rattle.calls.proofs.issue_line.Reads as reads
-use Rattle.calls.proofs.issue_line.Lts as lts
-use Rattle.calls.proofs.issue_read.Reads as issue-read-reads
+use Rattle.spoken.proofs.issue_line.Statement.{statement}
+use Rattle.spoken.proofs.issue_line.Tie as tie
+use Rattle.spoken.proofs.issue_line.Reads as reads
+use Rattle.spoken.proofs.issue_line.Lts as lts
+use Rattle.spoken.proofs.issue_read.Reads as issue-read-reads
 use Rattle.heard.proofs.issue.Reads as issue-reads
 
 issue-requires : tie.Need-issue-requires

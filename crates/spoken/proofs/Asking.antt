@@ -5,7 +5,7 @@ use mathlib.Core.List.{List}
 use Prim.Native.Nat.{ℕ}
 use lib.ListN.{length}
 use Rattle.meaning.specs.Calls as meaning
-use Rattle.layout.specs.Layout.{holdsTable, tableOf}
+use Rattle.layout.specs.Layout.{tableOf}
 use Rattle.allowing.specs.Asking.{askedFrom}
 use Rattle.asks.specs.declared.Reply.{Reply}
 use Rattle.asks.specs.declared.Reply.the-variants as reply
@@ -13,17 +13,7 @@ use Rattle.asks.specs.Replies.{replied}
 use Rattle.lines.specs.declared.Question.{Question}
 use Rattle.lines.specs.Named.{questionRead}
 use Rattle.heard.specs.Hearing.{bytesOf}
-use Rattle.calls.specs.Calls.{repliedOn, repliedBy}
-
--- 14, or the question to a table
-module _ (line words out : List ℕ) (b : Bool) (e : b ≡ holdsTable words) where
-  pub ask-no-table : b ≡ false → (reply.Refused 14, out) ≡ repliedBy line words out
-  unfolding repliedBy
-  ask-no-table f = rw (sym e ∙ f) refl
-
-  pub ask-table : b ≡ true → (r : Reply) (x : List ℕ) → (r, x) ≡ repliedOn line words out → (r, x) ≡ repliedBy line words out
-  unfolding repliedBy
-  ask-table t r x f = rw (sym e ∙ t) f
+use Rattle.spoken.specs.Spoken.{repliedOn}
 
 module _ (line words out : List ℕ) (asked : Question) (a : asked ≡ questionRead (bytesOf line)) where
   ok-is : (c : Bool) → asked .ok ≡ c → questionRead (bytesOf line) .ok ≡ c

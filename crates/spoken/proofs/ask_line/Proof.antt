@@ -1,10 +1,10 @@
-use Rattle.calls.proofs.Asking.{ask-misshapen, ask-replied}
+use Rattle.spoken.proofs.Asking.{ask-misshapen, ask-replied}
 use native.Mathlib.Omega.{arith}
 use borrow.Author.Needs.{needs}
-use Rattle.calls.proofs.ask_line.Statement.{statement}
-use Rattle.calls.proofs.ask_line.Tie as tie
-use Rattle.calls.proofs.ask_line.Reads as reads
-use Rattle.calls.proofs.ask_line.Lts as lts
+use Rattle.spoken.proofs.ask_line.Statement.{statement}
+use Rattle.spoken.proofs.ask_line.Tie as tie
+use Rattle.spoken.proofs.ask_line.Reads as reads
+use Rattle.spoken.proofs.ask_line.Lts as lts
 use Rattle.asks.proofs.ask_table.Reads as ask-table-reads
 use Rattle.heard.proofs.question.Reads as question-reads
 

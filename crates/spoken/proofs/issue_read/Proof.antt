@@ -1,10 +1,10 @@
-use Rattle.calls.proofs.Issuing.{issue-refused, issue-rises, issue-accepted, vector-few, issue-framed, issue-short}
+use Rattle.spoken.proofs.Issuing.{issue-refused, issue-rises, issue-accepted, vector-few, issue-framed, issue-short}
 use native.Mathlib.Omega.{arith}
 use borrow.Author.Needs.{needs}
-use Rattle.calls.proofs.issue_read.Statement.{statement}
-use Rattle.calls.proofs.issue_read.Tie as tie
-use Rattle.calls.proofs.issue_read.Reads as reads
-use Rattle.calls.proofs.issue_read.Lts as lts
+use Rattle.spoken.proofs.issue_read.Statement.{statement}
+use Rattle.spoken.proofs.issue_read.Tie as tie
+use Rattle.spoken.proofs.issue_read.Reads as reads
+use Rattle.spoken.proofs.issue_read.Lts as lts
 use Rattle.issues.proofs.issue_number.Reads as issue-number-reads
 use Rattle.issues.proofs.next_vector.Reads as next-vector-reads
 use Rattle.issues.proofs.take_local.Reads as take-local-reads

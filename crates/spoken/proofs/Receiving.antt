@@ -13,7 +13,7 @@ use Rattle.meaning.specs.Table.{Table}
 use Rattle.meaning.specs.Calls as meaning
 use Rattle.meaning.proofs.Tests.{cases}
 use Rattle.meaning.specs.Calls.{outcome}
-use Rattle.layout.specs.Layout.{holdsTable, tableOf, rewritten, sizeIn}
+use Rattle.layout.specs.Layout.{tableOf, rewritten, sizeIn}
 use Rattle.refusals.specs.declared.Sent.{Sent}
 use Rattle.refusals.specs.Fields.{frameFrom}
 use Rattle.receives.specs.Receiving as receiving
@@ -23,9 +23,9 @@ use Rattle.lines.specs.declared.Operation.{Operation}
 use Rattle.lines.specs.Named.{operationRead}
 use Rattle.lines.proofs.Named.{operation-stations-few, operation-vector-length}
 use Rattle.heard.specs.Hearing.{bytesOf}
-use Rattle.calls.specs.declared.Received.{Received}
-use Rattle.calls.specs.declared.Received.the-variants as received
-use Rattle.calls.specs.Calls.{frameOf, receivedAs, receivedOn, receivedBy}
+use Rattle.spoken.specs.declared.Received.{Received}
+use Rattle.spoken.specs.declared.Received.the-variants as received
+use Rattle.spoken.specs.Spoken.{frameOf, receivedAs, receivedOn}
 
 -- the first of two where the test holds
 pub picked : {A : Type 0} (b : Bool) (x y : A) → b ≡ true → pick b x y ≡ x
@@ -52,16 +52,6 @@ module _ (words : List ℕ) (r : ℕ) (x : List ℕ) (number : ℕ) (u : meant.O
       let b : eqb number 0 ≡ true = eq-eqb number 0 (sym number-is ∙ z) in
       let f : _≡_ {A = ℕ × List ℕ} (r, x) (0, rewritten words t) = e ∙ rw b refl in
       rw b (ap (λ (p : ℕ × List ℕ). (received.Accepted, p .1)) f)
-
--- 14, or the frame to a table
-module _ (line words : List ℕ) (b : Bool) (e : b ≡ holdsTable words) where
-  pub receive-no-table : b ≡ false → (received.Refused 14, words) ≡ receivedBy line words
-  unfolding receivedBy
-  receive-no-table f = rw (sym e ∙ f) refl
-
-  pub receive-table : b ≡ true → (r : Received) (x : List ℕ) → (r, x) ≡ receivedOn line words → (r, x) ≡ receivedBy line words
-  unfolding receivedBy
-  receive-table t r x f = rw (sym e ∙ t) f
 
 -- a frame that was read
 module _ (words : List ℕ) (f : Operation) where

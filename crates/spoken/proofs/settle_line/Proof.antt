@@ -1,10 +1,10 @@
-use Rattle.calls.proofs.Settling.{settle-misshapen, settle-taken}
+use Rattle.spoken.proofs.Settling.{settle-misshapen, settle-taken}
 use native.Mathlib.Omega.{arith}
 use borrow.Author.Needs.{needs}
-use Rattle.calls.proofs.settle_line.Statement.{statement}
-use Rattle.calls.proofs.settle_line.Tie as tie
-use Rattle.calls.proofs.settle_line.Reads as reads
-use Rattle.calls.proofs.settle_line.Lts as lts
+use Rattle.spoken.proofs.settle_line.Statement.{statement}
+use Rattle.spoken.proofs.settle_line.Tie as tie
+use Rattle.spoken.proofs.settle_line.Reads as reads
+use Rattle.spoken.proofs.settle_line.Lts as lts
 use Rattle.heard.proofs.settling.Reads as settling-reads
 use Rattle.settles.proofs.settle_table.Reads as settle-table-reads
 

@@ -13,9 +13,7 @@ use Rattle.meaning.specs.Calls as meaning
 use Rattle.meaning.specs.Calls.{withRows, rowsSettled, steps}
 use Rattle.meaning.proofs.Tests.{cases}
 use Rattle.tags.specs.declared.RowCount.{RowCount}
-use Rattle.layout.specs.Layout.{holdsTable, tableOf, rewritten}
-use Rattle.checked.specs.Checked.{Checked}
-use Rattle.checked.proofs.Checking.{checked}
+use Rattle.layout.specs.Layout.{tableOf, rewritten}
 use Rattle.hexes.specs.Choice.{pick}
 use Rattle.hexes.specs.Decoding.{isLine, pairs}
 use Rattle.hexes.specs.Numbers.{AllBytes, numberOf, numberFrom}
@@ -27,13 +25,9 @@ use Rattle.lines.specs.declared.Settling.{Settling}
 use Rattle.lines.specs.Types.{lineRead}
 use Rattle.lines.specs.Named.{settlingRead}
 use Rattle.heard.specs.Hearing.{bytesOf}
-use Rattle.calls.specs.declared.Settled.{Settled}
-use Rattle.calls.specs.declared.Settled.the-variants as settled
-use Rattle.calls.specs.Calls.{settledAs, settledOn, settledBy}
-
--- a space that was found to hold a table
-pub found : (s : List ℕ) (r : Bool) → r ≡ holdsTable s → r ≡ true → Checked s
-found s r e t = checked s (sym e ∙ t)
+use Rattle.spoken.specs.declared.Settled.{Settled}
+use Rattle.spoken.specs.declared.Settled.the-variants as settled
+use Rattle.spoken.specs.Spoken.{settledAs, settledOn}
 
 -- what is heard is bytes
 pub heard-bytes : (line : List ℕ) → AllBytes (bytesOf line)
@@ -51,16 +45,6 @@ unfolding settlingRead lineRead fieldsRead read padded hasShape lengthOf
 limit-read bytes h = cases (hasShape 48 3 bytes)
     (λ b. rw b (let k = two-bytes (drop 1 bytes) (all-bytes-drop 1 bytes h) in omega arith))
     (λ b. rw b (omega arith))
-
--- 14, or the call on a table
-module _ (line words : List ℕ) (b : Bool) (e : b ≡ holdsTable words) where
-  pub settle-no-table : b ≡ false → (settled.Refused 14, words) ≡ settledBy line words
-  unfolding settledBy
-  settle-no-table f = rw (sym e ∙ f) refl
-
-  pub settle-table : b ≡ true → (r : Settled) (x : List ℕ) → (r, x) ≡ settledOn line words → (r, x) ≡ settledBy line words
-  unfolding settledBy
-  settle-table t r x f = rw (sym e ∙ t) f
 
 module _ (line words : List ℕ) (asked : Settling) (a : asked ≡ settlingRead (bytesOf line)) where
   ok-is : (c : Bool) → asked .ok ≡ c → settlingRead (bytesOf line) .ok ≡ c

@@ -1,11 +1,11 @@
-use Rattle.calls.proofs.Receiving.{receive-misshapen, receive-shaped, read-few, read-long}
+use Rattle.spoken.proofs.Receiving.{receive-misshapen, receive-shaped, read-few, read-long}
 use native.Mathlib.Omega.{arith}
 use borrow.Author.Needs.{needs}
-use Rattle.calls.proofs.receive_line.Statement.{statement}
-use Rattle.calls.proofs.receive_line.Tie as tie
-use Rattle.calls.proofs.receive_line.Reads as reads
-use Rattle.calls.proofs.receive_line.Lts as lts
-use Rattle.calls.proofs.receive_read.Reads as receive-read-reads
+use Rattle.spoken.proofs.receive_line.Statement.{statement}
+use Rattle.spoken.proofs.receive_line.Tie as tie
+use Rattle.spoken.proofs.receive_line.Reads as reads
+use Rattle.spoken.proofs.receive_line.Lts as lts
+use Rattle.spoken.proofs.receive_read.Reads as receive-read-reads
 use Rattle.heard.proofs.operation.Reads as operation-reads
 
 operation-requires : tie.Need-operation-requires

@@ -1,10 +1,10 @@
-use Rattle.calls.proofs.Receiving.{receive-other-size, vector-room, vector-long, receive-refused, receive-accepted}
+use Rattle.spoken.proofs.Receiving.{receive-other-size, vector-room, vector-long, receive-refused, receive-accepted}
 use native.Mathlib.Omega.{arith}
 use borrow.Author.Needs.{needs}
-use Rattle.calls.proofs.receive_read.Statement.{statement}
-use Rattle.calls.proofs.receive_read.Tie as tie
-use Rattle.calls.proofs.receive_read.Reads as reads
-use Rattle.calls.proofs.receive_read.Lts as lts
+use Rattle.spoken.proofs.receive_read.Statement.{statement}
+use Rattle.spoken.proofs.receive_read.Tie as tie
+use Rattle.spoken.proofs.receive_read.Reads as reads
+use Rattle.spoken.proofs.receive_read.Lts as lts
 use Rattle.receives.proofs.receive_frame.Reads as receive-frame-reads
 use Rattle.tags.proofs.wide.Reads as wide-reads
 

@@ -19,9 +19,9 @@ use Rattle.lines.specs.Named.{openingRead}
 use Rattle.lines.proofs.Longest.{opening-size}
 use Rattle.heard.specs.Hearing.{bytesOf, heardIn}
 use Rattle.heard.proofs.Hearing.{heard-front, heard-room}
-use Rattle.calls.specs.declared.Opened.{Opened}
-use Rattle.calls.specs.declared.Opened.the-variants as called
-use Rattle.calls.specs.Calls.{openedAs, headerRead, openedBy}
+use Rattle.spoken.specs.declared.Opened.{Opened}
+use Rattle.spoken.specs.declared.Opened.the-variants as called
+use Rattle.spoken.specs.Spoken.{openedAs, headerRead, openedBy}
 
 module _ (words : List ℕ) (needed : ℕ) (header : Header) (refusal : ℕ) (e : refusal ≡ firstOf (openingRefusals (length words) needed header)) where
   pub open-refused : (refusal ≡ 0 → ⊥) → (called.Refused refusal, words) ≡ openedAs words (meaning.openTable (length words) needed header)

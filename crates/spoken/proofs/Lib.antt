@@ -1,0 +1,5 @@
+pub mod Settling
+pub mod Opening
+pub mod Asking
+pub mod Receiving
+pub mod Issuing
