@@ -22,14 +22,14 @@ pub record Laying (out₀ : List ℕ) (at : ℕ) (whole out : List ℕ) (to : �
   pub room : placeAfter to left ≤ length out
   pub long : length out ≡ length out₀
 
-laying-start : (out : List ℕ) (at : ℕ) (whole : List ℕ) → placeAfter at whole ≤ length out → Laying out at whole out at whole
+pub laying-start : (out : List ℕ) (at : ℕ) (whole : List ℕ) → placeAfter at whole ≤ length out → Laying out at whole out at whole
 laying-start out at whole h = record { same = refl; place = refl; room = h; long = refl }
 
 module _ (out₀ : List ℕ) (at : ℕ) (whole out : List ℕ) (to : ℕ) (left : List ℕ) (L : Laying out₀ at whole out to left) where
-  laying-room : (bytes more : List ℕ) → left ≡ bytes ++ more → placeAfter to bytes ≤ length out
+  pub laying-room : (bytes more : List ℕ) → left ≡ bytes ++ more → placeAfter to bytes ≤ length out
   laying-room bytes more e = let parts : length left ≡ length bytes + length more = ap length e ∙ length-append bytes more in omega (arith, L .room)
 
-  laying-turn : (bytes more out′ : List ℕ) (to′ : ℕ) → left ≡ bytes ++ more → (to′, out′) ≡ putAt out to bytes → Laying out₀ at whole out′ to′ more
+  pub laying-turn : (bytes more out′ : List ℕ) (to′ : ℕ) → left ≡ bytes ++ more → (to′, out′) ≡ putAt out to bytes → Laying out₀ at whole out′ to′ more
   unfolding putAt
   laying-turn bytes more out′ to′ e f =
       let parts : length left ≡ length bytes + length more = ap length e ∙ length-append bytes more in
@@ -48,7 +48,7 @@ module _ (out₀ : List ℕ) (at : ℕ) (whole out : List ℕ) (to : ℕ) (left 
   unfolding digitsAt digitsOf
   laid e = let here : to + 0 ≡ to = omega arith in sym (L .same ∙ rw e (rw here (take-append-drop to out)))
 
-  laying-done : left ≡ [] → (to, out) ≡ putAt out₀ at whole
+  pub laying-done : left ≡ [] → (to, out) ≡ putAt out₀ at whole
   unfolding putAt
   laying-done e = let none : length left ≡ 0 = ap length e in let after : to ≡ placeAfter at whole = omega (arith, L .place) in cc (laid e)
 

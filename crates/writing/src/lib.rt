@@ -14,7 +14,7 @@ pub enum Written {
 }
 
 // Writes fields as digits at a place, each at its width; the place behind them.
-fn put_fields(out: &mut [u8], at: usize, widths: &[u8], fields: &[u32]) -> usize
+pub fn put_fields(out: &mut [u8], at: usize, widths: &[u8], fields: &[u32]) -> usize
     requires { ⌜ (length (now fields) ≡ length (now widths)) × (at + 2 * lengthOf (now widths) ≤ length (now out)) ⌝ }
     ensures { λ r. ⌜ (r, now (out .exit)) ≡ putAt (now (out .entry)) at (written (now (widths .entry)) (now (fields .entry))) ⌝ }
 {

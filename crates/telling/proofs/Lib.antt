@@ -1,0 +1,3 @@
+pub mod Values
+pub mod Listed
+pub mod Told
