@@ -11,6 +11,8 @@ use Rattle.hexes.specs.Choice.{pick}
 use Rattle.hexes.specs.Decoding.{decoded, isLine, pairs}
 use Rattle.hexes.specs.declared.Decoded.{Decoded}
 use Rattle.hexes.specs.declared.Decoded.the-variants.{Bytes, Malformed}
+use Rattle.lines.specs.declared.Opening.{Opening}
+use Rattle.lines.specs.Named.{openingRead}
 use Rattle.heard.specs.Hearing.{bytesOf, heardIn}
 
 abbrev bytesIn : Decoded → ℕ
@@ -61,3 +63,6 @@ module _ (line buffer : List ℕ) (long : length buffer ≡ 261) where
 -- so what is read there is what is read of the line's bytes
 pub reads-heard : {A : Type 0} (read : List ℕ → A) (line buffer : List ℕ) (n : ℕ) (x : List ℕ) (r : A) → length buffer ≡ 261 → (n, x) ≡ heardIn line buffer → r ≡ read (take (n - 0) x) → r ≡ read (bytesOf line)
 reads-heard read line buffer n x r long e f = f ∙ ap read (heard-front line buffer long n x e)
+
+pub opening-heard : (line buffer : List ℕ) (n : ℕ) (x : List ℕ) (r : Opening) → length buffer ≡ 261 → (n, x) ≡ heardIn line buffer → r ≡ openingRead (take (n - 0) x) → r .ok ≡ openingRead (bytesOf line) .ok
+opening-heard line buffer n x r long e f = ap (λ (o : Opening). o .ok) (reads-heard openingRead line buffer n x r long e f)

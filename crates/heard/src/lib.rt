@@ -1,7 +1,7 @@
 // Lines as the calls hear them: characters read to bytes, and the bytes taken apart; what is no line is heard as no bytes, which have no shape.
 ghost use mathlib.Core.Path.{_≡_};
 ghost use Rattle.hexes.specs.Decoding.{decoded};
-ghost use Rattle.lines.specs.Named.{issueRead, operationRead, printingRead, questionRead, settlingRead};
+ghost use Rattle.lines.specs.Named.{issueRead, openingRead, operationRead, printingRead, questionRead, settlingRead};
 ghost use Rattle.heard.specs.Hearing.{bytesOf, heardIn};
 use hexes::Decoded;
 
@@ -13,6 +13,16 @@ pub fn hear(line: &[u8], into: &mut [u8; lines::LONGEST]) -> usize
         Decoded::Bytes(n) => n,
         Decoded::Malformed => 0,
     }
+}
+
+// Whether a line is an opening in its right shape.
+pub fn is_opening(line: &[u8]) -> bool
+    ensures { λ r. ⌜ r ≡ openingRead (bytesOf (now (line .entry))) .ok ⌝ }
+{
+    let mut bytes = [0u8; lines::LONGEST];
+    let n = hear(line, &mut bytes);
+    let asked = lines::read_opening(&bytes[0..n]);
+    asked.ok
 }
 
 pub fn operation(line: &[u8]) -> lines::Operation

@@ -1,0 +1,3 @@
+pub mod Saying
+pub mod Framing
+pub mod Choosing
