@@ -15,7 +15,7 @@ use Rattle.spoken.specs.Spoken.{receivedOn, settledOn}
 use Rattle.answering.specs.Answering.{answerOn, issueAnswer, questionAnswer, receivedBytes, secondOpening, settledBytes, toldAfter}
 
 -- an answer's line, where its bytes and the space are known
-told : (out bytes words : List ℕ) (answer : List ℕ × List ℕ) → answer ≡ (bytes, words) → (w : Written) (y x : List ℕ) → (w, y) ≡ lineWritten out bytes → x ≡ words → (w, (x, y)) ≡ toldAfter out answer
+pub told : (out bytes words : List ℕ) (answer : List ℕ × List ℕ) → answer ≡ (bytes, words) → (w : Written) (y x : List ℕ) → (w, y) ≡ lineWritten out bytes → x ≡ words → (w, (x, y)) ≡ toldAfter out answer
 unfolding toldAfter
 told out bytes words answer a w y x e f =
     ap₂ (λ (q : Written × List ℕ) (l : List ℕ). (q .0, (l, q .1))) e f ∙ sym (ap (toldAfter out) a)

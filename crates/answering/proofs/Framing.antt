@@ -34,6 +34,7 @@ use Rattle.lines.specs.Named.{issueRead}
 use Rattle.printed.specs.Printed.{printed}
 use Rattle.heard.specs.Hearing.{bytesOf}
 use Rattle.telling.specs.Telling.{refusalBytes}
+use Rattle.telling.proofs.Short.{refusal-long}
 use Rattle.spoken.specs.declared.Issued.{Issued}
 use Rattle.spoken.specs.declared.Issued.the-variants as issued
 use Rattle.spoken.specs.Spoken.{frameBytes, framedAs, issuedAs, issuedOn, localOf}
@@ -90,6 +91,25 @@ module _ (words room : List ℕ) (long : 147 ≤ length room) where
       by : (b : Bool) → Fit (pick b (issuedAs words room (meaning.issue (tableOf words) local)) (issued.Refused 1, (words, room))) (pick b (issuedBytes words (meaning.issue (tableOf words) local)) (refusalBytes 1, words)) room
       by true = outcome-fit (refusalOfLocal (tableOf words) local) (issuedBy (tableOf words) local) (afterArrival (tableOf words) (issuedBy (tableOf words) local) (tableOf words .last)) (next-few words K local)
       by false = (refl, (refl, refl))
+
+-- the answer's length
+pub issue-short : (words : List ℕ) → Checked words → (line : List ℕ) → length (issueAnswer line words .0) ≤ 2051
+unfolding issueAnswer issuedBytes meaning.issue outcome
+issue-short words K line = by (issueRead (bytesOf line) .ok) (eqb (refusalOfLocal (tableOf words) local) 0)
+  where
+    local : Local
+    local = localOf (issueRead (bytesOf line))
+
+    u : meant.Operation
+    u = issuedBy (tableOf words) local
+
+    short : (number : ℕ) → length (refusalBytes number) ≤ 2051
+    short number = omega (arith, refusal-long number)
+
+    by : (b c : Bool) → length (pick b (issuedBytes words (cond c (meaning.Outcome.accepted u (afterArrival (tableOf words) u (tableOf words .last))) (meaning.Outcome.refused (refusalOfLocal (tableOf words) local)))) (refusalBytes 1, words) .0) ≤ 2051
+    by true true = omega (arith, frame-few u (next-few words K local), length-hex-line (frameBytes u))
+    by true false = short (refusalOfLocal (tableOf words) local)
+    by false c = short 1
 
 -- from what the call knows
 module _ (words line out : List ℕ) (K : Checked words) (room : 149 ≤ length out) (r : Issued) (x y : List ℕ) (e : (r, (x, y)) ≡ issuedOn line words (take (length out - 2) (drop 2 out))) where

@@ -1,3 +1,4 @@
 pub mod Saying
 pub mod Framing
 pub mod Choosing
+pub mod Short

@@ -1,3 +1,4 @@
 pub mod Tested
 pub mod Falling
+pub mod Answering
 pub mod Station

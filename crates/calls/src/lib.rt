@@ -1,12 +1,18 @@
 // The public calls over a lent table space and a lent line. Each tries its refusals in 01's order, and a refusal changes nothing.
 ghost use mathlib.Core.Path.{_≡_};
 ghost use Rattle.spoken.specs.Spoken.{openedBy};
+ghost use Prim.Native.Nat.{_≤_};
+ghost use lib.ListN.{length};
+ghost use Rattle.answering.specs.Answering.{frameRoom, toldAfter};
 ghost use Rattle.calls.specs.Calls.{fallen, issuedBy, receivedBy, repliedBy, settledBy};
+ghost use Rattle.calls.specs.Answers.{answeredBy, answerOf, longestAnswer, typeOf};
 use asks::Reply;
+use hexes::LineType;
 use spoken::Issued;
 use spoken::Opened;
 use spoken::Received;
 use spoken::Settled;
+use writing::Written;
 
 // The space holds no table.
 const NO_TABLE: u32 = 14;
@@ -56,4 +62,61 @@ pub fn ask(space: &[u32], line: &[u8], out: &mut [u32]) -> Reply
         return spoken::ask_line(space, line, out);
     }
     Reply::Refused(NO_TABLE)
+}
+
+// The characters of the longest answer line, LF included: a list of as many values as a table may have rows.
+pub const LONGEST_ANSWER: usize = 4103;
+
+// Ties the constant to the laws, which can't name it.
+pub fn longest_answer() -> usize
+    ensures { λ r. ⌜ r ≡ longestAnswer ⌝ }
+{
+    LONGEST_ANSWER
+}
+
+// A line that is not of a type: no type's byte.
+const NO_TYPE: u8 = 0;
+
+// What the station program answers: a line of so many characters, or nothing further.
+pub enum Answered {
+    Line(usize),
+    End,
+}
+
+// The type of a line, malformed ones included.
+fn type_of(line: &[u8]) -> u8
+    ensures { λ r. ⌜ r ≡ typeOf (now (line .entry)) ⌝ }
+{
+    match hexes::line_type(line) {
+        LineType::Is(byte) => byte,
+        LineType::Unknown => NO_TYPE,
+    }
+}
+
+// The one line that a line is answered with; before an accepted opening, 14 unless it is itself an opening.
+fn answer_first(space: &mut [u32], line: &[u8], out: &mut [u8]) -> Written
+    requires { ⌜ frameRoom ≤ length (now out) ⌝ }
+    ensures { λ w. ⌜ (w, (now (space .exit), now (out .exit))) ≡ toldAfter (now (out .entry)) (answerOf (now (line .entry)) (now (space .entry))) ⌝ }
+{
+    let kind = type_of(line);
+    if rules::is_table(space) {
+        return answering::answer_line(space, line, kind, out);
+    }
+    if kind == lines::OPENING {
+        return answering::tell_opened(spoken::open_line(space, line), out);
+    }
+    printed::write_refusal(out, NO_TABLE)
+}
+
+// The k-th output line of the station program for an input line, from 0 on, or the end.
+pub fn answer(space: &mut [u32], line: &[u8], k: usize, out: &mut [u8; LONGEST_ANSWER]) -> Answered
+    ensures { λ r. ⌜ (r, (now (space .exit), now (out .exit))) ≡ answeredBy (now (line .entry)) k (now (space .entry)) (now (out .entry)) ⌝ }
+{
+    if 0 < k {
+        return Answered::End;
+    }
+    match answer_first(space, line, out) {
+        Written::Characters(n) => Answered::Line(n),
+        Written::TooShort => Answered::End,
+    }
 }

@@ -1,3 +1,4 @@
 pub mod Values
 pub mod Listed
 pub mod Told
+pub mod Short

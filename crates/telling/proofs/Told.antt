@@ -51,20 +51,20 @@ countTold (says.Count number) other = other
 countTold (says.Holds there) other = other
 
 module _ (source : Source) (asked : Asked) where
-  abbrev o : ℕ
+  abbrev pub o : ℕ
   o = asked .object
 
-  abbrev values : List ℕ
+  abbrev pub values : List ℕ
   values = source .listAt o
 
-  abbrev answer : Bool → Bool → Bool → Bool → question.Answer
+  abbrev pub answer : Bool → Bool → Bool → Bool → question.Answer
   answer total flag list count =
       cond total (question.total (source .totalAt o))
       (cond flag (question.flag (source .inAt o 0))
       (cond list (question.list values)
       (cond count (question.count (source .countAt o)) (question.holds (source .inAt o (asked .value))))))
 
-  abbrev chain : Bool → Bool → Bool → Bool → meaning.Reply
+  abbrev pub chain : Bool → Bool → Bool → Bool → meaning.Reply
   chain a b c d = replyOf (firstOf ((1 when a) ∷ (3 when b) ∷ (12 when c) ∷ (11 when d) ∷ [])) source asked
 
   answer-bytes : (p q r s : Bool) → toldBytes (replied (meaning.answered (answer p q r s)) [] .0) values ≡ replyBytes (meaning.answered (answer p q r s))
