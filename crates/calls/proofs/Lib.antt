@@ -4,4 +4,6 @@ pub mod Opening
 pub mod Asking
 pub mod Receiving
 pub mod Issuing
+pub mod Shaping
+pub mod ExactlyWhen
 pub mod Station

@@ -44,6 +44,8 @@ use Rattle.calls.specs.Station.{Call, receives, issues, settles, wordsAf
 use Rattle.calls.proofs.Settling.{limit-read, heard-bytes}
 use Rattle.calls.proofs.Opening.{open-ranges}
 use Rattle.calls.proofs.Receiving.{picked}
+-- every single call, by the numbers of its refusals
+pub use Rattle.calls.proofs.ExactlyWhen.{exactly-when}
 
 -- the space holds the table that a station has
 pub record Holds (words : List ℕ) (station : Station) : Type 0 where
