@@ -6,4 +6,5 @@ pub mod Receiving
 pub mod Issuing
 pub mod Shaping
 pub mod ExactlyWhen
+pub mod FrameBack
 pub mod Station
