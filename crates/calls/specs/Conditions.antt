@@ -1,5 +1,5 @@
 -- 01's table of refusals, call by call: each number with its condition, in the order in which the call tries them. A number is given when its condition
--- holds and that of no number before it does. Where an answer is an enum, its number.
+-- holds and that of no number before it does. Then the number of each answer, and what a call answers and leaves where it gives none.
 use mathlib.Core.Bool.{Bool, not, _&&_, _||_, cond}
 use mathlib.Core.List.{List, [], _∷_, _++_}
 use Prim.Native.Nat.{ℕ, suc}
