@@ -45,6 +45,10 @@ use Rattle.calls.specs.Station.{Call, receives, issues, settles, wordsAf
 use Rattle.spoken.proofs.Settling.{limit-read, heard-bytes}
 use Rattle.spoken.proofs.Opening.{open-ranges}
 use Rattle.spoken.proofs.Receiving.{picked}
+-- every single call, by the numbers of its refusals
+pub use Rattle.calls.proofs.ExactlyWhen.{exactly-when}
+-- the line that a local operation leaves says that operation, to every table that hears it
+pub use Rattle.calls.proofs.FrameBack.{issued-line-reads-back}
 
 -- the space holds the table that a station has
 pub record Holds (words : List ℕ) (station : Station) : Type 0 where

@@ -26,10 +26,10 @@ abbrev pub givenAt : List Refusal → ℕ → Bool
 givenAt chain i = getD chain i (0 when false) .given
 
 -- Whether a number is among those of a chain; and whether they are all different, and none is 0.
-abbrev numbered : ℕ → List Refusal → Bool
+abbrev pub numbered : ℕ → List Refusal → Bool
 numbered number chain = any (λ (refusal : Refusal). eqb number (refusal .number)) chain
 
-abbrev distinct : List Refusal → Bool
+abbrev pub distinct : List Refusal → Bool
 distinct [] = true
 distinct (refusal ∷ rest) = not (eqb (refusal .number) 0) && (not (numbered (refusal .number) rest) && distinct rest)
 
@@ -67,7 +67,7 @@ module _ (refusal : Refusal) (rest : List Refusal) (e : distinct (refusal ∷ re
       let h = and-right (not (eqb (refusal .number) 0)) (not (numbered (refusal .number) rest) && distinct rest) e in
       (not-holds (numbered (refusal .number) rest) (and-left (not (numbered (refusal .number) rest)) (distinct rest) h), and-right (not (numbered (refusal .number) rest)) (distinct rest) h)
 
-exact : (chain : List Refusal) → distinct chain ≡ true → ExactlyWhen chain
+pub exact : (chain : List Refusal) → distinct chain ≡ true → ExactlyWhen chain
 exact [] e = record { given-when = λ i h. absurd (not-suc-le-zero h); when-given = λ i g. absurd (false≢true g); none-when = λ _ i. refl; when-none = λ _. refl }
 exact (refusal ∷ rest) e = cases (refusal .given)
     (λ q.

@@ -38,7 +38,7 @@ part-arrive-end : tie.Need-part-arrive-end
 part-arrive-end c = search needs
 
 arrive-requires : tie.Need-arrive-requires
-arrive-requires c κs = local-arrives _ (c .before .before .before .before .before .before .before .before .before .before .before .before .pre .0) _ (c .before .before .before .before .before .before .before .before .before .wide .ensures .0) _ (c .before .before .before .next-vector .ensures) _ _ _ _ refl _ (c .before .before .before .before .before .arrival-of .ensures) (c .before .before .before .before .before .before .before .before .before .before .before .before .pre .1)
+arrive-requires c κs = local-arrives _ (c .before .before .before .before .before .before .before .before .before .before .before .before .pre .0) _ (c .before .before .before .before .before .before .before .before .before .wide .ensures .0) _ (c .before .before .before .next-vector .ensures) _ _ _ _ refl _ (search (c .before .before .before .before .before .arrival-of .ensures)) (c .before .before .before .before .before .before .before .before .before .before .before .before .pre .1)
 
 same-length : tie.Need-same-length
 same-length c = search needs

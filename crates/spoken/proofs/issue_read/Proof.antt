@@ -69,7 +69,7 @@ same-length-5 : tie.Need-same-length-5
 same-length-5 c = search needs
 
 returns-3 : tie.Need-returns-3
-returns-3 c = issue-short _ _ (c .before .before .before .before .before .before .before .before .before .before .before .before .before .before .before .before .before .before .pre) _ _ (c .before .before .before .before .before .before .before .before .before .before .before .before .before .before .issue-number .ensures) (search needs) _ (c .before .before .before .before .before .before .before .before .before .before .before .wide .ensures .0) _ (c .before .before .before .before .before .before .before .before .next-vector .ensures) _ _ (c .before .before .before .before .write-operation .ensures) (c .enum-told .given .1)
+returns-3 c = search (issue-short, needs, c .before .before .before .before .before .before .before .before .before .before .before .before .before .before .before .before .before .before .pre, c .before .before .before .before .before .before .before .before .before .before .before .before .before .before .issue-number .ensures, c .before .before .before .before .before .before .before .before .before .before .before .wide .ensures .0, c .before .before .before .before .before .before .before .before .next-vector .ensures, c .before .before .before .before .write-operation .ensures, c .enum-told .given .1)
 
 pub issue-read-spec : {M : Type 1} → statement M
 issue-read-spec =
