@@ -12,11 +12,13 @@ use Rattle.meaning.specs.Rows.{Row, settledRow}
 use Rattle.layout.specs.Words.{pieces, flat, padded}
 use Rattle.layout.specs.Layout.{rowOf, rowWords}
 use Rattle.rows.proofs.Dropping.{next-size}
-use Rattle.settling.specs.declared.Step.{Step}
-use Rattle.settling.specs.declared.Step.the-variants.{Keeps, Settles, Drops, DropsBoth}
-use Rattle.settling.specs.Stepping.{stepFor}
-use Rattle.settling.specs.Passing.{kindAt, Held, rowsThen, stepsThen, closedUp}
-use Rattle.settling.proofs.Passing.{Passing, passing-start, passing-keep, passing-settle, passing-drop, both-more, passing-both, held-ahead, here-room, row-spelt, passing-steps, passing-count, passing-done}
+use Rattle.steps.specs.declared.Step.{Step}
+use Rattle.steps.specs.declared.Step.the-variants.{Keeps, Settles, Drops, DropsBoth}
+use Rattle.steps.specs.Stepping.{stepFor}
+use Rattle.steps.specs.Held.{kindAt, Held}
+use Rattle.steps.proofs.OneStep.{row-spelt}
+use Rattle.settling.specs.Passing.{rowsThen, stepsThen, closedUp}
+use Rattle.settling.proofs.Passing.{Passing, passing-start, passing-keep, passing-settle, passing-drop, both-more, passing-both, held-ahead, here-room, passing-steps, passing-count, passing-done}
 
 -- Beside the pass: the width, and bounds that a sum of places asks for.
 pub record Loop (kinds low : List ℕ) (limit : ℕ) (s₀ : List ℕ) (n w count : ℕ) (s : List ℕ) (from to more left taken : ℕ) : Type 0 where

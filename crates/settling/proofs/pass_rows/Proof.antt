@@ -9,7 +9,7 @@ use Rattle.settling.proofs.pass_rows.Lts as lts
 use Rattle.moves.proofs.copy_down.Reads as copy-down-reads
 use Rattle.settling.proofs.finish.Reads as finish-reads
 use Rattle.settling.proofs.settle_row.Reads as settle-row-reads
-use Rattle.settling.proofs.step_for.Reads as step-for-reads
+use Rattle.steps.proofs.step_for.Reads as step-for-reads
 
 abbrev Inv-loop : tie.InvT-loop
 Inv-loop rows₀ size kinds low limit width from₀ to₀ more₀ left₀ taken₀ rows from to more left taken =

@@ -17,10 +17,10 @@ use Rattle.meaning.proofs.RowLaws.{on-eq}
 use Rattle.meaning.proofs.Settling.{stored-codes}
 use Rattle.meaning.proofs.TableFacts.{Facts, RowFacts, facts}
 use Rattle.meaning.proofs.TableRules.{kept-by-step}
-use Rattle.settling.specs.declared.Step.{Step}
-use Rattle.settling.specs.declared.Step.the-variants.{Keeps, Settles, Drops, DropsBoth}
-use Rattle.settling.specs.Stepping.{stepAmong, besideNext, besideLast, decided}
-use Rattle.settling.proofs.Deciding.{decides, settles-at, drops-at, both-at, both-some}
+use Rattle.steps.specs.declared.Step.{Step}
+use Rattle.steps.specs.declared.Step.the-variants.{Keeps, Settles, Drops, DropsBoth}
+use Rattle.steps.specs.Stepping.{stepAmong, besideNext, besideLast, decided}
+use Rattle.steps.proofs.Deciding.{decides, settles-at, drops-at, both-at, both-some}
 
 module _ (table : Table) (above below : List Row) (u : Operation) (ruled : isTable (withRows table (above ++ (unsettledRow u ∷ below))) ≡ true) where
   abbrev rows : List Row

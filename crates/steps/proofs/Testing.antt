@@ -20,10 +20,10 @@ use Rattle.layout.specs.Words.{pieces}
 use Rattle.layout.specs.Layout.{rowOf}
 use Rattle.rows.proofs.Testing.{either-first, either-second}
 use Rattle.rowrules.proofs.Ordering.{same-words}
-use Rattle.settling.specs.declared.Neighbour.{Neighbour}
-use Rattle.settling.specs.declared.Step.{Step}
-use Rattle.settling.specs.declared.Step.the-variants.{Keeps, Settles, Drops, DropsBoth}
-use Rattle.settling.specs.Stepping.{pick, nobody, beside, besideNext, besideLast, removeDecided, addDecided, decided}
+use Rattle.steps.specs.declared.Neighbour.{Neighbour}
+use Rattle.steps.specs.declared.Step.{Step}
+use Rattle.steps.specs.declared.Step.the-variants.{Keeps, Settles, Drops, DropsBoth}
+use Rattle.steps.specs.Stepping.{pick, nobody, beside, besideNext, besideLast, removeDecided, addDecided, decided}
 
 -- kinds 6 and 9
 pub stands-flag : (kind : ℕ) → kind ≡ 6 → true ≡ removesStand kind

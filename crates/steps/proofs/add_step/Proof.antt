@@ -1,10 +1,10 @@
-use Rattle.settling.proofs.Testing.{add-preceded, add-alone, add-with-remove, add-by-unsettled, add-by-add, add-followed}
+use Rattle.steps.proofs.Testing.{add-preceded, add-alone, add-with-remove, add-by-unsettled, add-by-add, add-followed}
 use native.Mathlib.Omega.{arith}
 use borrow.Author.Needs.{needs}
-use Rattle.settling.proofs.add_step.Statement.{statement}
-use Rattle.settling.proofs.add_step.Tie as tie
-use Rattle.settling.proofs.add_step.Reads as reads
-use Rattle.settling.proofs.add_step.Lts as lts
+use Rattle.steps.proofs.add_step.Statement.{statement}
+use Rattle.steps.proofs.add_step.Tie as tie
+use Rattle.steps.proofs.add_step.Reads as reads
+use Rattle.steps.proofs.add_step.Lts as lts
 
 returns : tie.Need-returns
 returns c = search add-preceded

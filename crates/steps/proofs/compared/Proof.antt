@@ -1,10 +1,10 @@
-use Rattle.settling.proofs.Testing.{is-beside}
+use Rattle.steps.proofs.Testing.{is-beside}
 use native.Mathlib.Omega.{arith}
 use borrow.Author.Needs.{needs}
-use Rattle.settling.proofs.compared.Statement.{statement}
-use Rattle.settling.proofs.compared.Tie as tie
-use Rattle.settling.proofs.compared.Reads as reads
-use Rattle.settling.proofs.compared.Lts as lts
+use Rattle.steps.proofs.compared.Statement.{statement}
+use Rattle.steps.proofs.compared.Tie as tie
+use Rattle.steps.proofs.compared.Reads as reads
+use Rattle.steps.proofs.compared.Lts as lts
 use Rattle.tags.proofs.same.Reads as same-reads
 
 sub-same : tie.Need-sub-same

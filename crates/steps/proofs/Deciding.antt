@@ -17,10 +17,10 @@ use Rattle.meaning.proofs.Tests.{iff, cases, clash, fails, and-left, and-right,
 use Rattle.meaning.proofs.Ascending.{Sorted, asc-left, asc-right, asc-cross}
 use Rattle.meaning.proofs.RowLaws.{on-eq, on-self, dropped-only-standing}
 use Rattle.meaning.proofs.RowOrder.{ordered, code-rises, settled-once, settled-first, behind-same, above-same}
-use Rattle.settling.specs.declared.Neighbour.{Neighbour}
-use Rattle.settling.specs.declared.Step.{Step}
-use Rattle.settling.specs.declared.Step.the-variants.{Keeps, Settles, Drops, DropsBoth}
-use Rattle.settling.specs.Stepping.{pick, stepAmong, nobody, beside, besideNext, besideLast, removeDecided, addDecided, decided}
+use Rattle.steps.specs.declared.Neighbour.{Neighbour}
+use Rattle.steps.specs.declared.Step.{Step}
+use Rattle.steps.specs.declared.Step.the-variants.{Keeps, Settles, Drops, DropsBoth}
+use Rattle.steps.specs.Stepping.{pick, stepAmong, nobody, beside, besideNext, besideLast, removeDecided, addDecided, decided}
 
 -- a list that is not empty, with its last row in sight
 record Ended (u : Operation) (rows : List Row) : Type 0 where

@@ -1,13 +1,13 @@
-use Rattle.settling.proofs.Testing.{decided-remove, decided-add, decided-other}
+use Rattle.steps.proofs.Testing.{decided-remove, decided-add, decided-other}
 use native.Mathlib.Omega.{arith}
 use borrow.Author.Needs.{needs}
-use Rattle.settling.proofs.decide.Statement.{statement}
-use Rattle.settling.proofs.decide.Tie as tie
-use Rattle.settling.proofs.decide.Reads as reads
-use Rattle.settling.proofs.decide.Lts as lts
-use Rattle.settling.proofs.add_step.Reads as add-step-reads
-use Rattle.settling.proofs.remove_step.Reads as remove-step-reads
-use Rattle.settling.proofs.removes_stand.Reads as removes-stand-reads
+use Rattle.steps.proofs.decide.Statement.{statement}
+use Rattle.steps.proofs.decide.Tie as tie
+use Rattle.steps.proofs.decide.Reads as reads
+use Rattle.steps.proofs.decide.Lts as lts
+use Rattle.steps.proofs.add_step.Reads as add-step-reads
+use Rattle.steps.proofs.remove_step.Reads as remove-step-reads
+use Rattle.steps.proofs.removes_stand.Reads as removes-stand-reads
 
 removes-stand-requires : tie.Need-removes-stand-requires
 removes-stand-requires c κs = search needs

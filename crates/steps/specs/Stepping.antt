@@ -9,9 +9,9 @@ use Rattle.meaning.specs.Operations.{Operation, adds, removesStand}
 use Rattle.meaning.specs.Rows.{Row}
 use Rattle.meaning.specs.Arrival.{sameValue}
 use Rattle.meaning.specs.Settling.{due, becomesSettled, droppedWith}
-use Rattle.settling.specs.declared.Neighbour.{Neighbour}
-use Rattle.settling.specs.declared.Step.{Step}
-use Rattle.settling.specs.declared.Step.the-variants.{Keeps, Settles, Drops, DropsBoth}
+use Rattle.steps.specs.declared.Neighbour.{Neighbour}
+use Rattle.steps.specs.declared.Step.{Step}
+use Rattle.steps.specs.declared.Step.the-variants.{Keeps, Settles, Drops, DropsBoth}
 
 abbrev pub pick : Bool → Step → Step → Step
 pick true step others = step

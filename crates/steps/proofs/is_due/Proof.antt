@@ -1,10 +1,10 @@
-use Rattle.settling.proofs.Testing.{due-not, due-by-low}
+use Rattle.steps.proofs.Testing.{due-not, due-by-low}
 use native.Mathlib.Omega.{arith}
 use borrow.Author.Needs.{needs}
-use Rattle.settling.proofs.is_due.Statement.{statement}
-use Rattle.settling.proofs.is_due.Tie as tie
-use Rattle.settling.proofs.is_due.Reads as reads
-use Rattle.settling.proofs.is_due.Lts as lts
+use Rattle.steps.proofs.is_due.Statement.{statement}
+use Rattle.steps.proofs.is_due.Tie as tie
+use Rattle.steps.proofs.is_due.Reads as reads
+use Rattle.steps.proofs.is_due.Lts as lts
 use Rattle.tags.proofs.at_most.Reads as at-most-reads
 
 shared-slice-read-if1 : tie.Need-shared-slice-read-if1

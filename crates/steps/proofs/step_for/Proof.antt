@@ -1,15 +1,15 @@
-use Rattle.settling.proofs.Passing.{step-kept, step-decided}
+use Rattle.steps.proofs.OneStep.{step-kept, step-decided}
 use native.Mathlib.Omega.{arith}
 use borrow.Author.Needs.{needs}
-use Rattle.settling.proofs.step_for.Statement.{statement}
-use Rattle.settling.proofs.step_for.Tie as tie
-use Rattle.settling.proofs.step_for.Reads as reads
-use Rattle.settling.proofs.step_for.Lts as lts
+use Rattle.steps.proofs.step_for.Statement.{statement}
+use Rattle.steps.proofs.step_for.Tie as tie
+use Rattle.steps.proofs.step_for.Reads as reads
+use Rattle.steps.proofs.step_for.Lts as lts
 use Rattle.rowrules.proofs.kind_of.Reads as kind-of-reads
-use Rattle.settling.proofs.before.Reads as before-reads
-use Rattle.settling.proofs.behind.Reads as behind-reads
-use Rattle.settling.proofs.decide.Reads as decide-reads
-use Rattle.settling.proofs.is_due.Reads as is-due-reads
+use Rattle.steps.proofs.before.Reads as before-reads
+use Rattle.steps.proofs.behind.Reads as behind-reads
+use Rattle.steps.proofs.decide.Reads as decide-reads
+use Rattle.steps.proofs.is_due.Reads as is-due-reads
 
 add-width : tie.Need-add-width
 add-width c = search needs
