@@ -1,10 +1,10 @@
 -- The loop of a pass, with the width of a row in hand.
-use Prim.Native.Nat.{ℕ, zero, suc, _+_, _-_, _*_, _≤_, _<_}
-use mathlib.Core.Path.{_≡_, refl, sym, ap, _∙_, subst}
+use Prim.Native.Nat.{ℕ, _+_, _-_, _*_, _≤_, _<_}
+use mathlib.Core.Path.{_≡_, refl, _∙_, subst}
 use mathlib.Core.Logic.{_⊎_}
-use mathlib.Core.List.{List, [], _∷_, _++_, map}
+use mathlib.Core.List.{List, _∷_, _++_, map}
 use native.Mathlib.Omega.{arith}
-use lib.ListN.{length, take, drop, replicate}
+use lib.ListN.{length, take, drop}
 use lib.Seq.{paste}
 use mir.Val.{Fits}
 use mir.Syntax.{w64}
@@ -54,8 +54,8 @@ module _ (kinds low : List ℕ) (limit : ℕ) (s₀ : List ℕ) (n w count : ℕ
   copy-again s₁ e = rw e copy-within
 
   -- what the test of a row asks
-  pub kept-at : to ≡ left * (7 + n)
-  kept-at = D .kept
+  pub kept-below : left * (7 + n) ≤ from
+  kept-below = omega (arith, D .kept, D .below)
 
   pub rest-within : from + (7 + n) + (more - 1) * (7 + n) ≤ length s
   rest-within = omega (arith, next-size s (7 + n) count from more (D .place) some, D .place .room)
@@ -86,32 +86,26 @@ module _ (kinds low : List ℕ) (limit : ℕ) (s₀ : List ℕ) (n w count : ℕ
 
 -- the end
 module _ (kinds low : List ℕ) (limit : ℕ) (s₀ : List ℕ) (n w count : ℕ) (s : List ℕ) (from to more left taken : ℕ) (L : Loop kinds low limit s₀ n w count s from to more left taken) where
-  pub close-within : from + more * w ≤ length s
-  close-within = rw (L .wide) (omega (arith, L .pass .place .size, L .pass .place .room))
+  -- the rows that were not passed, as a run of words
+  module _ (m : ℕ) (e : m ≡ more) where
+    pub run-within : from + m * w ≤ length s
+    run-within = rw (e, L .wide) (omega (arith, L .pass .place .size, L .pass .place .room))
 
-  module _ (rows : ℕ) (m : count ≡ rows) (stop : (limit ≤ taken) ⊎ (more ≤ 0)) where
+    pub run-fits : length s₀ * 4 < 9223372036854775808 → Fits w64 (m * w)
+    run-fits h = omega (arith, run-within, L .pass .long)
+
+  module _ (rows : ℕ) (c : count ≡ rows) (stop : (limit ≤ taken) ⊎ (more ≤ 0)) where
     abbrev R₀ : List Row
     R₀ = map rowOf (pieces (7 + n) rows s₀)
 
     at-rows : Passing kinds low limit s₀ n rows s from to more left taken
-    at-rows = subst (λ (k : ℕ). Passing kinds low limit s₀ n k s from to more left taken) m (L .pass)
+    at-rows = subst (λ (k : ℕ). Passing kinds low limit s₀ n k s from to more left taken) c (L .pass)
 
-    pub loop-count : (k : ℕ) → k ≡ left + more → k ≡ length (rowsThen kinds low limit R₀)
-    loop-count k e = e ∙ passing-count kinds low limit s₀ n rows s from to more left taken at-rows stop
+    pub loop-count : left + more ≡ length (rowsThen kinds low limit R₀)
+    loop-count = passing-count kinds low limit s₀ n rows s from to more left taken at-rows stop
 
-    pub loop-steps : (k : ℕ) → k ≡ taken → k ≡ stepsThen kinds low limit R₀
-    loop-steps k e = e ∙ passing-steps kinds low limit s₀ n rows s from to more left taken at-rows stop
+    pub loop-steps : taken ≡ stepsThen kinds low limit R₀
+    loop-steps = passing-steps kinds low limit s₀ n rows s from to more left taken at-rows stop
 
-    pub loop-done : (s′ : List ℕ) → s′ ≡ closedUp s from to (more * w) → s′ ≡ padded (rows * (7 + n)) (flat (map (rowWords n) (rowsThen kinds low limit R₀))) ++ drop (rows * (7 + n)) s₀
-    loop-done s′ f = passing-done kinds low limit s₀ n rows s from to more left taken at-rows stop s′ (rw (L .wide) at f)
-
--- the rows that were not passed, as a run of words
-module _ (s : List ℕ) (w from more m : ℕ) (e : m ≡ more) (room : from + more * w ≤ length s) where
-  pub run-within : from + m * w ≤ length s
-  run-within = rw e room
-
-  pub run-fits : length s * 4 < 9223372036854775808 → Fits w64 (m * w)
-  run-fits h = rw e (omega (arith, room))
-
-  pub run-closed : (to : ℕ) (s′ : List ℕ) → s′ ≡ closedUp s from to (m * w) → s′ ≡ closedUp s from to (more * w)
-  run-closed to s′ f = f ∙ rw e refl
+    pub loop-done : (m : ℕ) → m ≡ more → (s′ : List ℕ) → s′ ≡ closedUp s from to (m * w) → s′ ≡ padded (rows * (7 + n)) (flat (map (rowWords n) (rowsThen kinds low limit R₀))) ++ drop (rows * (7 + n)) s₀
+    loop-done m e s′ f = passing-done kinds low limit s₀ n rows s from to more left taken at-rows stop s′ (f ∙ rw (e, L .wide) refl)

@@ -344,6 +344,3 @@ closed s t u from to run h k e f =
     let behind : drop (from + run) t ≡ drop (from + run) s = drop-more t s (to + run) (from + run) (omega arith) tail in
     let zeros : from + run - (to + run) ≡ from - to = omega arith in
     f ∙ rw (front, behind, zeros) (simp append-assoc)
-
-pub closed-room : (s t : List ℕ) (from to run : ℕ) → to ≤ from → from + run ≤ length s → t ≡ paste s to (drop from s) run → from + run ≤ length t
-closed-room s t from to run h k e = rw (ap length e ∙ length-paste s to (drop from s) run (omega arith) (simp length-drop (omega arith))) k

@@ -3,7 +3,6 @@ ghost use mathlib.Core.Path.{_≡_};
 ghost use mathlib.Core.List.{_++_, map};
 ghost use Prim.Native.Nat.{_+_, _*_, _≤_, _<_};
 ghost use lib.ListN.{length, take, drop};
-ghost use Rattle.meaning.specs.Order.{entryLimit};
 ghost use Rattle.meaning.specs.Rows.{settledRow};
 ghost use Rattle.layout.specs.Words.{flat, padded, pieces};
 ghost use Rattle.layout.specs.Layout.{rowOf, rowWidth, rowWords};
@@ -36,26 +35,6 @@ fn close_up(rows: &mut [u32], from: usize, to: usize, run: usize)
     moves::clear(rows, to + run, from + run);
 }
 
-// Ends a pass: the rows that were not passed move down to those that were kept, with zeros behind them.
-fn finish(
-    rows: &mut [u32],
-    width: usize,
-    from: usize,
-    to: usize,
-    more: RowCount,
-    left: RowCount,
-    taken: RowCount,
-) -> Passed
-    requires { ⌜ (to ≤ from) × (from + more .0 * width ≤ length (now rows)) × (left .0 + more .0 < entryLimit) ⌝ }
-    ensures { λ r. ⌜ (r .left .0 ≡ left .0 + more .0) × (r .taken .0 ≡ taken .0) × (now (rows .exit) ≡ closedUp (now (rows .entry)) from to (more .0 * width)) ⌝ }
-{
-    close_up(rows, from, to, tags::wide(more.0) * width);
-    Passed {
-        left: RowCount(left.0 + more.0),
-        taken,
-    }
-}
-
 // Takes settling steps until the limit or until no row is due: one pass with a reading and a writing place.
 pub fn pass_rows(
     rows: &mut [u32],
@@ -76,60 +55,35 @@ pub fn pass_rows(
     let mut taken: u32 = 0;
     while 0 < more {
         if limit.0 <= taken {
-            return finish(
-                rows,
-                width,
-                from,
-                to,
-                RowCount(more),
-                RowCount(left),
-                RowCount(taken),
-            );
+            break;
         }
+        let at = from;
+        from += width;
         more -= 1;
-        let end = from + width;
-        match steps::step_for(
-            rows,
-            size,
-            from,
-            RowCount(more),
-            to,
-            RowCount(left),
-            kinds,
-            low,
-        ) {
+        match steps::step_for(rows, size, at, RowCount(left), RowCount(more), kinds, low) {
             Step::Keeps => {
-                moves::copy_down(rows, width, from, to);
+                moves::copy_down(rows, width, at, to);
                 to += width;
                 left += 1;
-                from = end;
             }
             Step::Settles => {
-                settle_row(rows, from, size);
-                moves::copy_down(rows, width, from, to);
+                settle_row(rows, at, size);
+                moves::copy_down(rows, width, at, to);
                 to += width;
                 left += 1;
                 taken += 1;
-                from = end;
             }
-            Step::Drops => {
-                taken += 1;
-                from = end;
-            }
+            Step::Drops => taken += 1,
             Step::DropsBoth => {
                 taken += 1;
                 more -= 1;
-                from = end + width;
+                from += width;
             }
         }
     }
-    finish(
-        rows,
-        width,
-        from,
-        to,
-        RowCount(more),
-        RowCount(left),
-        RowCount(taken),
-    )
+    close_up(rows, from, to, tags::wide(more) * width);
+    Passed {
+        left: RowCount(left + more),
+        taken: RowCount(taken),
+    }
 }

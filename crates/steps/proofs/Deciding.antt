@@ -3,24 +3,24 @@ use mathlib.Core.Path.{_≡_, refl, sym, _∙_, ap, subst}
 use mathlib.Core.Bool.{Bool, true, false, not, _&&_, _||_, cond, false≢true}
 use mathlib.Core.Logic.{_⊎_, inl, inr, ⊎-elim}
 use mathlib.Core.List.{List, [], _∷_, _++_, List·Memᴰ, List·Memᴰ·head, List·Memᴰ·tail, List·Memᴰ·cases-cons, Memᴰ·append-left, Memᴰ·append-right, List·Memᴰ·append-cases}
-use Prim.Native.Nat.{ℕ, _<_, _≤_}
+use Prim.Native.Nat.{ℕ}
 use native.Mathlib.Omega.{arith}
 use lib.Dec.{eqb}
-use borrow.Author.Tests.{eqb-true, eq-eqb, ne-eqb}
+use borrow.Author.Tests.{eqb-true, eq-eqb}
 use Rattle.meaning.specs.Tests.{any, those}
 use Rattle.meaning.specs.Operations.{Operation, adds, removes, removesStand}
 use Rattle.meaning.specs.Meaning.{on, addOf, removeOf}
 use Rattle.meaning.specs.Rows.{Row, unsettledRow, settledRow, lowerRow}
 use Rattle.meaning.specs.Arrival.{sameValue}
 use Rattle.meaning.specs.Settling.{addBeside, removeBeside, becomesSettled, droppedWith, leftBy, stepAt}
-use Rattle.meaning.proofs.Tests.{iff, cases, clash, fails, and-left, and-right, and-both, and-fails, and-true, not-holds, fails-not, any-in, any-out, any-no, any-none, any-cong, any-append, or-cases, or-left, or-right, or-left-fails, or-right-fails}
+use Rattle.meaning.proofs.Tests.{iff, cases, clash, fails, and-left, and-right, and-both, not-holds, fails-not, any-in, any-out, any-none, any-cong, any-append, or-cases, or-left-fails, or-right-fails}
 use Rattle.meaning.proofs.Ascending.{Sorted, asc-left, asc-right, asc-cross}
-use Rattle.meaning.proofs.RowLaws.{on-eq, on-self, dropped-only-standing}
-use Rattle.meaning.proofs.RowOrder.{ordered, code-rises, settled-once, settled-first, behind-same, above-same}
+use Rattle.meaning.proofs.RowLaws.{on-eq, on-self}
+use Rattle.meaning.proofs.RowOrder.{code-rises, settled-once, settled-first, behind-same, above-same}
 use Rattle.steps.specs.declared.Neighbour.{Neighbour}
 use Rattle.steps.specs.declared.Step.{Step}
 use Rattle.steps.specs.declared.Step.the-variants.{Keeps, Settles, Drops, DropsBoth}
-use Rattle.steps.specs.Stepping.{pick, stepAmong, nobody, beside, besideNext, besideLast, removeDecided, addDecided, decided}
+use Rattle.steps.specs.Stepping.{pick, stepAmong, beside, besideNext, besideLast, removeDecided, addDecided, decided}
 
 -- a list that is not empty, with its last row in sight
 record Ended (u : Operation) (rows : List Row) : Type 0 where

@@ -1,11 +1,10 @@
 -- What the table rules say of the rows beside a row that is due, and that a step keeps them.
-use mathlib.Core.Path.{_≡_, refl, sym, _∙_, ap, subst}
-use mathlib.Core.Bool.{Bool, true, false, not, _&&_, _||_}
+use mathlib.Core.Path.{_≡_, refl, subst}
+use mathlib.Core.Bool.{true, false, _&&_, _||_}
 use mathlib.Core.List.{List, [], _∷_, _++_, List·Memᴰ}
 use Prim.Native.Nat.{ℕ}
 use lib.Dec.{eqb}
 use Rattle.meaning.specs.Operations.{Operation, adds, removes, removesStand}
-use Rattle.meaning.specs.Meaning.{on}
 use Rattle.meaning.specs.Rows.{Row, unsettledRow, settledRow}
 use Rattle.meaning.specs.Arrival.{sameValue}
 use Rattle.meaning.specs.Settling.{stepAt}
@@ -17,8 +16,7 @@ use Rattle.meaning.proofs.RowLaws.{on-eq}
 use Rattle.meaning.proofs.Settling.{stored-codes}
 use Rattle.meaning.proofs.TableFacts.{Facts, RowFacts, facts}
 use Rattle.meaning.proofs.TableRules.{kept-by-step}
-use Rattle.steps.specs.declared.Step.{Step}
-use Rattle.steps.specs.declared.Step.the-variants.{Keeps, Settles, Drops, DropsBoth}
+use Rattle.steps.specs.declared.Step.the-variants.{Settles, Drops, DropsBoth}
 use Rattle.steps.specs.Stepping.{stepAmong, besideNext, besideLast, decided}
 use Rattle.steps.proofs.Deciding.{decides, settles-at, drops-at, both-at, both-some}
 

@@ -1,17 +1,17 @@
 -- The tests of a row and of what stands beside it, in the words of the meaning.
 use Prim.Native.Nat.{ℕ, zero, suc, _+_, _-_, _*_, _≤_, _<_}
-use mathlib.Core.Path.{_≡_, refl, sym, ap, _∙_, subst}
-use mathlib.Core.Bool.{Bool, true, false, not, _&&_, _||_, cond, false≢true}
+use mathlib.Core.Path.{_≡_, refl, sym, ap, _∙_}
+use mathlib.Core.Bool.{Bool, true, false, not}
 use mathlib.Core.List.{List, [], _∷_, _++_, map}
 use native.Mathlib.Omega.{arith}
 use native.Mathlib.Nat.{suc-mul, zero-mul}
-use borrow.Author.Tests.{eqb-true, eq-eqb, ne-eqb}
+use borrow.Author.Tests.{eq-eqb, ne-eqb}
 use lib.Dec.{eqb}
 use lib.ListN.{length, getD, take, drop, length-drop}
 use lib.Seq.{take-all, length-take-le, drop-drop}
 use mir.Val.{Fits}
-use mir.Syntax.{w32}
-use Rattle.meaning.specs.Order.{Vector, atMost, same}
+use mir.Syntax.{w32, w64}
+use Rattle.meaning.specs.Order.{atMost, same}
 use Rattle.meaning.specs.Operations.{Operation, removesStand}
 use Rattle.meaning.specs.Rows.{Row}
 use Rattle.meaning.specs.Settling.{stableBy, due}
@@ -22,8 +22,8 @@ use Rattle.rows.proofs.Testing.{either-first, either-second}
 use Rattle.rowrules.proofs.Ordering.{same-words}
 use Rattle.steps.specs.declared.Neighbour.{Neighbour}
 use Rattle.steps.specs.declared.Step.{Step}
-use Rattle.steps.specs.declared.Step.the-variants.{Keeps, Settles, Drops, DropsBoth}
-use Rattle.steps.specs.Stepping.{pick, nobody, beside, besideNext, besideLast, removeDecided, addDecided, decided}
+use Rattle.steps.specs.declared.Step.the-variants.{Settles, Drops, DropsBoth}
+use Rattle.steps.specs.Stepping.{nobody, beside, besideNext, besideLast, removeDecided, addDecided, decided}
 
 -- kinds 6 and 9
 pub stands-flag : (kind : ℕ) → kind ≡ 6 → true ≡ removesStand kind
@@ -134,16 +134,16 @@ module _ (s : List ℕ) (w at : ℕ) (n : Neighbour) where
   q : at + w - at ≡ w
   q = omega arith
 
-  pub before-nothing : (to left : ℕ) → 7 ≤ w → to ≡ left * w → to < w → n ≡ nobody → n ≡ besideLast u (map rowOf (pieces w left s))
+  pub before-nothing : (left : ℕ) → left ≡ 0 → n ≡ nobody → n ≡ besideLast u (map rowOf (pieces w left s))
   unfolding besideLast
-  before-nothing to zero h e l f = f
-  before-nothing to (suc left) h e l f = absurd (omega (arith, suc-mul left w))
+  before-nothing left e f = rw e f
 
-  pub before-last : (to left : ℕ) → to ≡ left * w → w ≤ to → 7 ≤ w → n ≡ beside (rowOf (take (at + w - at) (drop at s)) .operation) (rowOf (take (to - (to - w)) (drop (to - w) s))) → n ≡ besideLast u (map rowOf (pieces w left s))
-  before-last to zero e l h f = absurd (omega (arith, zero-mul w))
-  before-last to (suc left) e l h f =
-      let p : to - (to - w) ≡ w = omega arith in
-      let r : to - w ≡ left * w = omega (arith, suc-mul left w) in
+  pub before-last : (left m : ℕ) → (left ≡ 0 → ⊥) → m ≡ left → n ≡ beside (rowOf (take (at + w - at) (drop at s)) .operation) (rowOf (take (m * w - (m * w - w)) (drop (m * w - w) s))) → n ≡ besideLast u (map rowOf (pieces w left s))
+  before-last zero m e g f = absurd (e refl)
+  before-last (suc left) m e g f =
+      let many : m * w ≡ left * w + w = ap (λ (k : ℕ). k * w) g ∙ omega (arith, suc-mul left w) in
+      let p : m * w - (m * w - w) ≡ w = omega (arith, many) in
+      let r : m * w - w ≡ left * w = omega (arith, many) in
       f ∙ rw (q, p, r) (sym (ap (besideLast u) (ap (map rowOf) (pieces-last w left s) ∙ map-last (pieces w left s) (take w (drop (left * w) s))) ∙ last-beside u (map rowOf (pieces w left s)) (rowOf (take w (drop (left * w) s)))))
 
   pub behind-nothing : (more : ℕ) → more ≡ 0 → n ≡ nobody → n ≡ besideNext u (map rowOf (pieces w more (drop (at + w) s)))
@@ -154,6 +154,30 @@ module _ (s : List ℕ) (w at : ℕ) (n : Neighbour) where
   unfolding besideNext
   behind-next zero e f = absurd (e refl)
   behind-next (suc more) e f = let p : at + w + w - (at + w) ≡ w = omega arith in f ∙ rw (q, p) refl
+
+-- the last of the rows kept, which end at a place
+module _ (s : List ℕ) (w at left m : ℕ) (e : m ≡ left) (low : left * w ≤ at) (room : at + w ≤ length s) where
+  pub last-end : m * w ≤ length s
+  last-end = rw e (omega arith)
+
+  pub last-fits : length s * 4 < 9223372036854775808 → Fits w64 (m * w)
+  last-fits h = rw e (omega arith)
+
+  pub last-start-fits : length s * 4 < 9223372036854775808 → Fits w64 ((m * w - w) * 4)
+  last-start-fits h = rw e (omega arith)
+
+  module _ (some : left ≡ 0 → ⊥) where
+    pub last-start : w ≤ m * w
+    last-start = rw e (go left some)
+      where
+        go : (k : ℕ) → (k ≡ 0 → ⊥) → w ≤ k * w
+        go zero h = absurd (h refl)
+        go (suc k) h = omega (arith, suc-mul k w)
+
+    pub last-long : 7 ≤ w → 7 ≤ length (take (m * w - (m * w - w)) (drop (m * w - w) s))
+    last-long wide =
+        let p : m * w - (m * w - w) ≡ w = omega (arith, last-start) in
+        rw (p, length-take-le w (drop (m * w - w) s) (simp length-drop (omega (arith, last-start, last-end)))) wide
 
 pub next-room : (w at more length : ℕ) → at + w + more * w ≤ length → (more ≡ 0 → ⊥) → at + w + w ≤ length
 next-room w at zero length h e = absurd (e refl)

@@ -70,15 +70,16 @@ fn compared(row: &[u32], other: &[u32]) -> Neighbour
     }
 }
 
-// What stands before the row at a place: the last of the rows kept so far, which end at another place.
-fn before(rows: &[u32], width: usize, at: usize, to: usize, left: RowCount) -> Neighbour
-    requires { ⌜ (keyWords ≤ width) × (to ≡ left .0 * width) × (to ≤ at) × (at + width ≤ length (now rows)) ⌝ }
+// What stands before the row at a place: the last of so many rows kept at the front.
+fn before(rows: &[u32], width: usize, at: usize, left: RowCount) -> Neighbour
+    requires { ⌜ (keyWords ≤ width) × (left .0 * width ≤ at) × (at + width ≤ length (now rows)) ⌝ }
     ensures { λ r. ⌜ r ≡ besideLast (rowOf (take width (drop at (now (rows .entry)))) .operation) (map rowOf (pieces width (left .0) (now (rows .entry)))) ⌝ }
 {
-    if to < width {
+    if left.0 == 0 {
         return no_neighbour();
     }
     let end = at + width;
+    let to = tags::wide(left.0) * width;
     compared(&rows[at..end], &rows[to - width..to])
 }
 
@@ -154,18 +155,17 @@ fn decide(kind: u32, code: u32, before: Neighbour, behind: Neighbour) -> Step
     add_step(false, before, behind)
 }
 
-// What becomes of the row at a place: it is kept unless it is due. The rows kept so far end at another place, and so many follow it.
+// What becomes of the row at a place: it is kept unless it is due. So many rows are kept at the front, and so many follow it.
 pub fn step_for(
     rows: &[u32],
     size: usize,
     at: usize,
-    more: RowCount,
-    to: usize,
     left: RowCount,
+    more: RowCount,
     kinds: &[u32],
     low: &[u32],
 ) -> Step
-    requires { ⌜ (length (now low) ≡ size) × (size ≤ 16) × (to ≡ left .0 * rowWidth size) × (to ≤ at) × (at + rowWidth size ≤ length (now rows)) × (at + rowWidth size + more .0 * rowWidth size ≤ length (now rows)) ⌝ }
+    requires { ⌜ (length (now low) ≡ size) × (size ≤ 16) × (left .0 * rowWidth size ≤ at) × (at + rowWidth size ≤ length (now rows)) × (at + rowWidth size + more .0 * rowWidth size ≤ length (now rows)) ⌝ }
     requires { ⌜ Held (now kinds) size (pieces (rowWidth size) (left .0) (now rows) ++ (take (rowWidth size) (drop at (now rows)) ∷ pieces (rowWidth size) (more .0) (drop (at + rowWidth size) (now rows)))) ⌝ }
     ensures { λ r. ⌜ r ≡ stepFor (kindAt (now (kinds .entry))) (now (low .entry)) (rowsFrom size (left .0) (now (rows .entry))) (rowOf (take (rowWidth size) (drop at (now (rows .entry))))) (rowsFrom size (more .0) (drop (at + rowWidth size) (now (rows .entry)))) ⌝ }
 {
@@ -173,7 +173,7 @@ pub fn step_for(
     let end = at + width;
     if is_due(&rows[at..end], low) {
         let kind = rowrules::kind_of(kinds, rows[at]);
-        let above = before(rows, width, at, to, left);
+        let above = before(rows, width, at, left);
         let below = behind(rows, width, at, more);
         return decide(kind, rows[at + layout::CODE_AT], above, below);
     }
