@@ -27,22 +27,23 @@ pub record Loop (kinds low : List ℕ) (limit : ℕ) (s₀ : List ℕ) (n w coun
   pub within : from ≤ length s
   pub below : to ≤ from
   pub fewer : left + more ≤ count
+  pub steps : taken + more ≤ count
   pub word : count < 4294967296
   pub pass : Passing kinds low limit s₀ n count s from to more left taken
 
-looped : (kinds low : List ℕ) (limit : ℕ) (s₀ : List ℕ) (n w count : ℕ) (s : List ℕ) (from to more left taken : ℕ) → w ≡ 7 + n → n ≤ 16 → count < 4294967296 → Passing kinds low limit s₀ n count s from to more left taken → Loop kinds low limit s₀ n w count s from to more left taken
-looped kinds low limit s₀ n w count s from to more left taken e f g P =
-    record { wide = e; few = f; within = omega (arith, P .place .size, P .place .room); below = P .below; fewer = P .fewer; word = g; pass = P }
+looped : (kinds low : List ℕ) (limit : ℕ) (s₀ : List ℕ) (n w count : ℕ) (s : List ℕ) (from to more left taken : ℕ) → w ≡ 7 + n → n ≤ 16 → count < 4294967296 → taken + more ≤ count → Passing kinds low limit s₀ n count s from to more left taken → Loop kinds low limit s₀ n w count s from to more left taken
+looped kinds low limit s₀ n w count s from to more left taken e f g k P =
+    record { wide = e; few = f; within = omega (arith, P .place .size, P .place .room); below = P .below; fewer = P .fewer; steps = k; word = g; pass = P }
 
 pub loop-start : (kinds low : List ℕ) (limit : ℕ) (s : List ℕ) (n w count more : ℕ) → w ≡ 7 + n → n ≤ 16 → count * (7 + n) ≤ length s → Held kinds n (pieces (7 + n) count s) → more ≡ count → more < 4294967296 → Loop kinds low limit s n w more s 0 0 more 0 0
-loop-start kinds low limit s n w count more e f h H g k = looped kinds low limit s n w more s 0 0 more 0 0 e f k (rw g (passing-start kinds low limit s n count h H))
+loop-start kinds low limit s n w count more e f h H g k = looped kinds low limit s n w more s 0 0 more 0 0 e f k (omega arith) (rw g (passing-start kinds low limit s n count h H))
 
 module _ (kinds low : List ℕ) (limit : ℕ) (s₀ : List ℕ) (n w count : ℕ) (s : List ℕ) (from to more left taken : ℕ) (L : Loop kinds low limit s₀ n w count s from to more left taken) (some : 0 < more) where
   abbrev D : Passing kinds low limit s₀ n count s from to more left taken
   D = L .pass
 
-  next : (s′ : List ℕ) (from′ to′ more′ left′ taken′ : ℕ) → Passing kinds low limit s₀ n count s′ from′ to′ more′ left′ taken′ → Loop kinds low limit s₀ n w count s′ from′ to′ more′ left′ taken′
-  next s′ from′ to′ more′ left′ taken′ P = looped kinds low limit s₀ n w count s′ from′ to′ more′ left′ taken′ (L .wide) (L .few) (L .word) P
+  next : (s′ : List ℕ) (from′ to′ more′ left′ taken′ : ℕ) → taken′ + more′ ≤ taken + more → Passing kinds low limit s₀ n count s′ from′ to′ more′ left′ taken′ → Loop kinds low limit s₀ n w count s′ from′ to′ more′ left′ taken′
+  next s′ from′ to′ more′ left′ taken′ h P = looped kinds low limit s₀ n w count s′ from′ to′ more′ left′ taken′ (L .wide) (L .few) (L .word) (omega (arith, L .steps)) P
 
   pub row-within : from + (7 + n) ≤ length s
   row-within = here-room kinds low limit s₀ n count s from to more left taken D some
@@ -68,21 +69,21 @@ module _ (kinds low : List ℕ) (limit : ℕ) (s₀ : List ℕ) (n w count : ℕ
 
   module _ (r : Step) (e : r ≡ stepFor (kindAt kinds) low (map rowOf (pieces (7 + n) left s)) (rowOf (take (7 + n) (drop from s))) (map rowOf (pieces (7 + n) (more - 1) (drop (from + (7 + n)) s)))) where
     pub loop-keep : (s′ : List ℕ) → s′ ≡ paste s to (drop from s) w → r ≡ Keeps → Loop kinds low limit s₀ n w count s′ (from + w) (to + w) (more - 1) (left + 1) taken
-    loop-keep s′ p k = next s′ (from + w) (to + w) (more - 1) (left + 1) taken (rw (L .wide) (passing-keep kinds low limit s₀ n count s from to more left taken D some s′ (rw (L .wide) at p) r e k))
+    loop-keep s′ p k = next s′ (from + w) (to + w) (more - 1) (left + 1) taken (omega arith) (rw (L .wide) (passing-keep kinds low limit s₀ n count s from to more left taken D some s′ (rw (L .wide) at p) r e k))
 
     module _ (less : taken < limit) where
       pub loop-settle : (s₁ s′ : List ℕ) → s₁ ≡ take from s ++ (rowWords n (settledRow (rowOf (take (7 + n) (drop from s)) .operation)) ++ drop (from + (7 + n)) s) → s′ ≡ paste s₁ to (drop from s₁) w → r ≡ Settles →
           Loop kinds low limit s₀ n w count s′ (from + w) (to + w) (more - 1) (left + 1) (taken + 1)
-      loop-settle s₁ s′ f p k = next s′ (from + w) (to + w) (more - 1) (left + 1) (taken + 1) (rw (L .wide) (passing-settle kinds low limit s₀ n count s from to more left taken D some less r e k s₁ s′ f (rw (L .wide) at p)))
+      loop-settle s₁ s′ f p k = next s′ (from + w) (to + w) (more - 1) (left + 1) (taken + 1) (omega arith) (rw (L .wide) (passing-settle kinds low limit s₀ n count s from to more left taken D some less r e k s₁ s′ f (rw (L .wide) at p)))
 
       pub loop-drop : r ≡ Drops → Loop kinds low limit s₀ n w count s (from + w) to (more - 1) left (taken + 1)
-      loop-drop k = next s (from + w) to (more - 1) left (taken + 1) (rw (L .wide) (passing-drop kinds low limit s₀ n count s from to more left taken D some less r e k))
+      loop-drop k = next s (from + w) to (more - 1) left (taken + 1) (omega arith) (rw (L .wide) (passing-drop kinds low limit s₀ n count s from to more left taken D some less r e k))
 
       pub two-more : r ≡ DropsBoth → 1 ≤ more - 1
       two-more k = both-more kinds low limit s₀ n count s from to more left taken D some less r e k
 
       pub loop-both : r ≡ DropsBoth → Loop kinds low limit s₀ n w count s (from + w + w) to (more - 1 - 1) left (taken + 1)
-      loop-both k = next s (from + w + w) to (more - 1 - 1) left (taken + 1) (rw (L .wide) (passing-both kinds low limit s₀ n count s from to more left taken D some less r e k))
+      loop-both k = next s (from + w + w) to (more - 1 - 1) left (taken + 1) (omega arith) (rw (L .wide) (passing-both kinds low limit s₀ n count s from to more left taken D some less r e k))
 
 -- the end
 module _ (kinds low : List ℕ) (limit : ℕ) (s₀ : List ℕ) (n w count : ℕ) (s : List ℕ) (from to more left taken : ℕ) (L : Loop kinds low limit s₀ n w count s from to more left taken) where
