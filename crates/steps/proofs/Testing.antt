@@ -18,21 +18,11 @@ use Rattle.meaning.specs.Settling.{stableBy, due}
 use Rattle.meaning.proofs.Tests.{cases}
 use Rattle.layout.specs.Words.{pieces}
 use Rattle.layout.specs.Layout.{rowOf}
-use Rattle.rows.proofs.Testing.{either-first, either-second}
 use Rattle.rowrules.proofs.Ordering.{same-words}
 use Rattle.steps.specs.declared.Neighbour.{Neighbour}
 use Rattle.steps.specs.declared.Step.{Step}
 use Rattle.steps.specs.declared.Step.the-variants.{Settles, Drops, DropsBoth}
 use Rattle.steps.specs.Stepping.{nobody, beside, besideNext, besideLast, removeDecided, addDecided, decided}
-
--- kinds 6 and 9
-pub stands-flag : (kind : ℕ) → kind ≡ 6 → true ≡ removesStand kind
-unfolding removesStand
-stands-flag kind e = either-first kind 6 9 e
-
-pub stands-set : (kind : ℕ) → (kind ≡ 6 → ⊥) → eqb kind 9 ≡ removesStand kind
-unfolding removesStand
-stands-set kind e = either-second kind 6 9 e
 
 -- a remove
 module _ (before behind : Neighbour) where

@@ -3,7 +3,6 @@ ghost use mathlib.Core.Path.{_≡_};
 ghost use mathlib.Core.List.{_∷_, _++_, map};
 ghost use Prim.Native.Nat.{_+_, _*_, _≤_};
 ghost use lib.ListN.{length, take, drop};
-ghost use Rattle.meaning.specs.Operations.{removesStand};
 ghost use Rattle.meaning.specs.Settling.{due};
 ghost use Rattle.layout.specs.Words.{pieces};
 ghost use Rattle.layout.specs.Layout.{rowOf, rowWidth};
@@ -26,12 +25,6 @@ pub enum Step {
     Drops,
     DropsBoth,
 }
-
-const ADDS: u32 = 1;
-
-const DISABLE_WINS_FLAG: u32 = 6;
-
-const REMOVE_WINS_SET: u32 = 9;
 
 // Whether a row is due: unsettled, and stable by Low.
 fn is_due(row: &[u32], low: &[u32]) -> bool
@@ -65,7 +58,7 @@ fn compared(row: &[u32], other: &[u32]) -> Neighbour
             &row[layout::OBJECT_AT..layout::CODE_AT],
             &other[layout::OBJECT_AT..layout::CODE_AT],
         ),
-        adds: other[layout::CODE_AT] == ADDS,
+        adds: other[layout::CODE_AT] == objects::ADDS,
         settled: other[layout::UNSETTLED_AT] == 0,
     }
 }
@@ -94,16 +87,6 @@ fn behind(rows: &[u32], width: usize, at: usize, more: RowCount) -> Neighbour
     let next = at + width;
     let end = next + width;
     compared(&rows[at..next], &rows[next..end])
-}
-
-// Whether removes stand in objects of this kind.
-fn removes_stand(kind: u32) -> bool
-    ensures { λ r. ⌜ r ≡ removesStand kind ⌝ }
-{
-    if kind == DISABLE_WINS_FLAG {
-        return true;
-    }
-    kind == REMOVE_WINS_SET
 }
 
 // What becomes of a remove where removes stand: it is settled if adds are all that stands beside it.
@@ -146,8 +129,8 @@ fn add_step(stands: bool, before: Neighbour, behind: Neighbour) -> Step
 fn decide(kind: u32, code: u32, before: Neighbour, behind: Neighbour) -> Step
     ensures { λ r. ⌜ r ≡ decided kind code before behind ⌝ }
 {
-    if removes_stand(kind) {
-        if code == ADDS {
+    if objects::removes_stand(kind) {
+        if code == objects::ADDS {
             return add_step(true, before, behind);
         }
         return remove_step(before, behind);
@@ -172,7 +155,7 @@ pub fn step_for(
     let width = layout::VECTOR_AT + size;
     let end = at + width;
     if is_due(&rows[at..end], low) {
-        let kind = rowrules::kind_of(kinds, rows[at]);
+        let kind = objects::kind_of(kinds, rows[at]);
         let above = before(rows, width, at, left);
         let below = behind(rows, width, at, more);
         return decide(kind, rows[at + layout::CODE_AT], above, below);

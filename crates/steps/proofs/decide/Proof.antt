@@ -7,7 +7,7 @@ use Rattle.steps.proofs.decide.Reads as reads
 use Rattle.steps.proofs.decide.Lts as lts
 use Rattle.steps.proofs.add_step.Reads as add-step-reads
 use Rattle.steps.proofs.remove_step.Reads as remove-step-reads
-use Rattle.steps.proofs.removes_stand.Reads as removes-stand-reads
+use Rattle.objects.proofs.removes_stand.Reads as removes-stand-reads
 
 removes-stand-requires : tie.Need-removes-stand-requires
 removes-stand-requires c κs = search needs

@@ -5,7 +5,7 @@ use Rattle.steps.proofs.step_for.Statement.{statement}
 use Rattle.steps.proofs.step_for.Tie as tie
 use Rattle.steps.proofs.step_for.Reads as reads
 use Rattle.steps.proofs.step_for.Lts as lts
-use Rattle.rowrules.proofs.kind_of.Reads as kind-of-reads
+use Rattle.objects.proofs.kind_of.Reads as kind-of-reads
 use Rattle.steps.proofs.before.Reads as before-reads
 use Rattle.steps.proofs.behind.Reads as behind-reads
 use Rattle.steps.proofs.decide.Reads as decide-reads

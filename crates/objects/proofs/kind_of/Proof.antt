@@ -1,8 +1,8 @@
--- `rowrules::kind_of` meets its contract: the kind at the object's place, and none beyond the end.
-use Rattle.rowrules.proofs.Contents.{kind-there, kind-nowhere}
+-- `objects::kind_of` meets its contract: the kind at the object's place, and none beyond the end.
+use Rattle.objects.proofs.KindLaws.{kind-there, kind-nowhere}
 use borrow.Author.Needs.{needs}
-use Rattle.rowrules.proofs.kind_of.Statement.{statement}
-use Rattle.rowrules.proofs.kind_of.Tie as tie
+use Rattle.objects.proofs.kind_of.Statement.{statement}
+use Rattle.objects.proofs.kind_of.Tie as tie
 
 returns : tie.Need-returns
 returns c = search kind-there
