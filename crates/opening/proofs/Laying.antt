@@ -19,7 +19,8 @@ use Rattle.layout.specs.Words.{complement, flat, padded}
 use Rattle.layout.specs.Layout.{wordsOf, totalWords, totalsWords, spaceFor, tableMark}
 use Rattle.layout.proofs.Reading.{in-a-row}
 use Rattle.moves.proofs.Moving.{put-turn as put-one}
-use Rattle.opening.specs.Opening.{headed, headerOf}
+use Rattle.ranges.specs.Headers.{headerOf}
+use Rattle.opening.specs.Opening.{headed}
 
 -- zeros one after the other
 zeros-join : (a b : ℕ) (x : List ℕ) → replicate a 0 ++ (replicate b 0 ++ x) ≡ replicate (a + b) 0 ++ x
