@@ -87,6 +87,9 @@ square-fits n h = omega (arith, square n h)
 pub rows-place-fits : (n : ℕ) → n ≤ 16 → Fits w64 (103 + n + n * n)
 rows-place-fits n h = omega (arith, square n h)
 
+pub rows-place : (n : ℕ) → n ≤ 16 → 103 + n + n * n ≤ 375
+rows-place n h = omega (arith, square n h)
+
 area : (n c : ℕ) → n ≤ 16 → c ≤ 512 → c * (7 + n) ≤ 11776
 area n c h k = let w : 7 + n ≤ 23 = omega arith in mul-le-mul k w
 
@@ -95,8 +98,12 @@ module _ (n capacity c : ℕ) (h : n ≤ 16) (k : capacity ≤ 512) (e : c ≡ c
   pub area-fits : Fits w64 (c * (7 + n))
   area-fits = rw e (omega (arith, area n capacity h k))
 
-  pub space-fits : Fits w64 (103 + n + n * n + c * (7 + n))
-  space-fits = rw e (omega (arith, area n capacity h k, square n h))
+  module _ (r : ℕ) (l : r ≤ 375) where
+    pub space-fits : Fits w64 (r + c * (7 + n))
+    space-fits = rw e (omega (arith, area n capacity h k))
 
-  pub space-is : 103 + n + n * n + c * (7 + n) ≡ spaceFor n capacity
-  space-is = rw e refl
+    pub space-most : r + c * (7 + n) ≤ 12151
+    space-most = rw e (omega (arith, area n capacity h k))
+
+    pub space-is : r ≡ 103 + n + n * n → r + c * (7 + n) ≡ spaceFor n capacity
+    space-is q = rw (e, q) refl

@@ -3,8 +3,9 @@ ghost use mathlib.Core.Path.{_≡_};
 ghost use Prim.Native.Nat.{_≤_};
 ghost use Rattle.meaning.specs.Tests.{between, every};
 ghost use Rattle.meaning.specs.Table.{greatestKind, greatestSize, inRange};
-ghost use Rattle.layout.specs.Layout.{spaceFor};
+ghost use Rattle.layout.specs.Layout.{rowsAt, spaceFor};
 ghost use Rattle.ranges.specs.Headers.{headerOf};
+ghost use Rattle.ranges.specs.Spaces.{mostBeforeRows, mostWords};
 use layout::CLOCK_AT;
 use layout::KEY;
 use tags::RowCount;
@@ -79,10 +80,18 @@ pub fn header_ok(size: u32, own: Station, capacity: RowCount, kinds: &[u8]) -> b
     in_range(tags::wide(capacity.0), GREATEST_CAPACITY)
 }
 
+// Where the rows of a group of this size start.
+pub fn rows_at(size: usize) -> usize
+    requires { ⌜ size ≤ 16 ⌝ }
+    ensures { λ r. ⌜ (r ≡ rowsAt size) × (r ≤ mostBeforeRows) ⌝ }
+{
+    CLOCK_AT + size + size * size
+}
+
 // How many words a table needs.
 pub fn space_for(size: usize, capacity: RowCount) -> usize
     requires { ⌜ (size ≤ 16) × (capacity .0 ≤ 512) ⌝ }
-    ensures { λ r. ⌜ r ≡ spaceFor size (capacity .0) ⌝ }
+    ensures { λ r. ⌜ (r ≡ spaceFor size (capacity .0)) × (r ≤ mostWords) ⌝ }
 {
-    CLOCK_AT + size + size * size + tags::wide(capacity.0) * (KEY + size)
+    rows_at(size) + tags::wide(capacity.0) * (KEY + size)
 }

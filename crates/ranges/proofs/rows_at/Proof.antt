@@ -1,8 +1,8 @@
--- `rules::rows_at` meets its contract: the square of at most 16 fits.
-use Rattle.rules.proofs.Heading.{square-fits, rows-place-fits, rows-place}
+-- `ranges::rows_at` meets its contract: the square of at most 16 fits.
+use Rattle.ranges.proofs.Heading.{square-fits, rows-place-fits, rows-place}
 use borrow.Author.Needs.{needs}
-use Rattle.rules.proofs.rows_at.Statement.{statement}
-use Rattle.rules.proofs.rows_at.Tie as tie
+use Rattle.ranges.proofs.rows_at.Statement.{statement}
+use Rattle.ranges.proofs.rows_at.Tie as tie
 
 mul-result : tie.Need-mul-result
 mul-result c = search square-fits
