@@ -12,16 +12,6 @@ use Rattle.meaning.proofs.Tests.{and-left, and-right, between-out, between-in}
 use Rattle.layout.specs.Layout.{tableMark, spaceFor, sizeIn, ownIn, capacityIn, objectsIn, countIn}
 use Rattle.rules.specs.TableTests.{sizesKept, headKept, Headed}
 
--- a number in a range
-module _ (number least greatest : ℕ) where
-  pub range-below : number < least → false ≡ between least greatest number
-  unfolding between
-  range-below h = rw (lt-leb least number h) refl
-
-  pub range-from : least ≤ number → leb number greatest ≡ between least greatest number
-  unfolding between
-  range-from h = rw (le-leb least number h) refl
-
 -- the numbers of the head: a test that fails decides, whatever the ones before it say
 past-two : (a b : Bool) → false ≡ (a && (b && false))
 past-two true b = sym (and-false b)

@@ -20,29 +20,15 @@ use layout::SIZE_AT;
 use layout::TABLE_MARK;
 use layout::TOTAL_WORDS;
 use layout::TOTALS_AT;
+use ranges::GREATEST_CAPACITY;
+use ranges::GREATEST_KIND;
+use ranges::GREATEST_SIZE;
+use ranges::MOST_OBJECTS;
 use tags::RowCount;
 use tags::Station;
 
 // What the seventh word holds when no load is under way.
 const IDLE: u32 = 0;
-
-const GREATEST_SIZE: u32 = 16;
-
-const GREATEST_CAPACITY: u32 = 512;
-
-const MOST_OBJECTS: u32 = 32;
-
-const GREATEST_KIND: u32 = 9;
-
-// Whether a number is from the least to the greatest.
-fn in_range(number: u32, least: u32, greatest: u32) -> bool
-    ensures { λ r. ⌜ r ≡ between least greatest number ⌝ }
-{
-    if number < least {
-        return false;
-    }
-    number <= greatest
-}
 
 // Whether every word is from the least to the greatest.
 fn all_in_range(words: &[u32], least: u32, greatest: u32) -> bool
@@ -51,7 +37,7 @@ fn all_in_range(words: &[u32], least: u32, greatest: u32) -> bool
     let mut good = true;
     let mut i = 0;
     while i < words.len() {
-        if !in_range(words[i], least, greatest) {
+        if !ranges::in_range(words[i], least, greatest) {
             good = false;
         }
         i += 1;
@@ -64,16 +50,16 @@ fn sizes_ok(size: u32, own: Station, capacity: RowCount, objects: u32, count: Ro
     ensures { λ r. ⌜ r ≡ sizesKept size (own .0) (capacity .0) objects (count .0) ⌝ }
 {
     let most = capacity.0;
-    if !in_range(size, 1, GREATEST_SIZE) {
+    if !ranges::in_range(size, 1, GREATEST_SIZE) {
         return false;
     }
     if size <= own.0 {
         return false;
     }
-    if !in_range(most, 1, GREATEST_CAPACITY) {
+    if !ranges::in_range(most, 1, GREATEST_CAPACITY) {
         return false;
     }
-    if !in_range(objects, 1, MOST_OBJECTS) {
+    if !ranges::in_range(objects, 1, MOST_OBJECTS) {
         return false;
     }
     count.0 <= most
