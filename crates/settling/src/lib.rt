@@ -1,7 +1,7 @@
 // Settling in lent words: rows are passed once, and each that is due is settled or dropped.
 ghost use mathlib.Core.Path.{_≡_};
 ghost use mathlib.Core.List.{_++_, map};
-ghost use Prim.Native.Nat.{_+_, _*_, _≤_, _<_};
+ghost use Prim.Native.Nat.{_+_, _*_, _≤_};
 ghost use lib.ListN.{length, take, drop};
 ghost use Rattle.meaning.specs.Rows.{settledRow};
 ghost use Rattle.layout.specs.Words.{flat, padded, pieces};
