@@ -16,16 +16,8 @@ use Rattle.meaning.specs.Refusals.{wellAsked}
 use Rattle.meaning.proofs.Tests.{cases}
 use Rattle.allowing.specs.Asking.{askedFrom}
 
--- counters and flags
+-- flags
 module _ (kind : ℕ) where
-  pub counter-first : kind ≡ 1 → true ≡ isCounter kind
-  unfolding isCounter
-  counter-first e = rw e refl
-
-  pub counter-second : (kind ≡ 1 → ⊥) → eqb kind 2 ≡ isCounter kind
-  unfolding isCounter
-  counter-second n = rw (ne-eqb kind 1 n) refl
-
   pub flag-first : kind ≡ 5 → true ≡ isFlag kind
   unfolding isFlag
   flag-first e = rw e refl
@@ -164,13 +156,6 @@ module _ (question value : ℕ) where
     unfolding wellAsked between
     asked-plain n = rw (le-leb 1 question low, le-leb question 5 high, ne-eqb question 5 n) refl
 
--- an object's kind
-module _ (kinds : List ℕ) (place object : ℕ) (e : place ≡ object) where
-  pub kind-there : getD kinds place 0 ≡ getD kinds object 0
-  kind-there = ap (λ (n : ℕ). getD kinds n 0) e
-
-  pub declared-there : ltb place (length kinds) ≡ ltb object (length kinds)
-  declared-there = ap (λ (n : ℕ). ltb n (length kinds)) e
-
-  pub kind-nowhere : length kinds ≤ place → 0 ≡ getD kinds object 0
-  kind-nowhere h = sym (List·getD-eq-default kinds 0 h) ∙ kind-there
+-- an object is declared
+pub declared-there : (kinds : List ℕ) (place object : ℕ) → place ≡ object → ltb place (length kinds) ≡ ltb object (length kinds)
+declared-there kinds place object e = ap (λ (n : ℕ). ltb n (length kinds)) e

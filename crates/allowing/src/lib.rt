@@ -1,33 +1,20 @@
 // What an object's kind allows: its codes, its values, and the questions that fit it.
 ghost use mathlib.Core.Path.{_≡_};
 ghost use lib.Dec.{ltb};
-ghost use lib.ListN.{length, getD};
-ghost use Rattle.meaning.specs.Operations.{allowed, codeAllowed, isCounter, isFlag, valueAllowed};
+ghost use lib.ListN.{length};
+ghost use Rattle.meaning.specs.Operations.{allowed, codeAllowed, isFlag, valueAllowed};
 ghost use Rattle.meaning.specs.Questions.{fits};
 ghost use Rattle.meaning.specs.Refusals.{wellAsked};
 ghost use Rattle.allowing.specs.Asking.{askedFrom};
-
-const NO_KIND: u32 = 0;
-
-const GROW_COUNTER: u32 = 1;
-
-const UP_DOWN_COUNTER: u32 = 2;
-
-const GROW_SET: u32 = 3;
-
-const ENABLE_WINS_FLAG: u32 = 5;
-
-const DISABLE_WINS_FLAG: u32 = 6;
-
-const MULTI_VALUE_REGISTER: u32 = 7;
-
-const REMOVE_WINS_SET: u32 = 9;
-
-const ADDS: u32 = 1;
-
-const REMOVES: u32 = 2;
-
-const CLEARS: u32 = 3;
+use objects::ADDS;
+use objects::CLEARS;
+use objects::DISABLE_WINS_FLAG;
+use objects::ENABLE_WINS_FLAG;
+use objects::GROW_COUNTER;
+use objects::GROW_SET;
+use objects::MULTI_VALUE_REGISTER;
+use objects::REMOVE_WINS_SET;
+use objects::REMOVES;
 
 const LEAST_AMOUNT: u32 = 1;
 
@@ -46,32 +33,11 @@ pub const ASKS_COUNT: u32 = 4;
 
 pub const ASKS_HOLDS: u32 = 5;
 
-// The kind of an object, or none where it is not declared.
-pub fn kind_of(kinds: &[u32], object: u32) -> u32
-    ensures { λ r. ⌜ r ≡ getD (now (kinds .entry)) object 0 ⌝ }
-{
-    let at = tags::wide(object);
-    if at < kinds.len() {
-        return kinds[at];
-    }
-    NO_KIND
-}
-
 // Whether an object is declared.
 pub fn is_declared(kinds: &[u32], object: u32) -> bool
     ensures { λ r. ⌜ r ≡ ltb object (length (now (kinds .entry))) ⌝ }
 {
     tags::wide(object) < kinds.len()
-}
-
-// Whether objects of this kind are counters, whose values are amounts.
-fn is_counter(kind: u32) -> bool
-    ensures { λ r. ⌜ r ≡ isCounter kind ⌝ }
-{
-    if kind == GROW_COUNTER {
-        return true;
-    }
-    kind == UP_DOWN_COUNTER
 }
 
 // Whether objects of this kind are flags, whose operations carry no value.
@@ -116,7 +82,7 @@ fn code_allowed(kind: u32, code: u32) -> bool
 fn value_allowed(kind: u32, code: u32, value: u32) -> bool
     ensures { λ r. ⌜ r ≡ valueAllowed kind code value ⌝ }
 {
-    if is_counter(kind) {
+    if objects::is_counter(kind) {
         if value < LEAST_AMOUNT {
             return false;
         }
@@ -146,12 +112,12 @@ pub fn is_fitted(question: u32, kind: u32) -> bool
     ensures { λ r. ⌜ r ≡ fits question kind ⌝ }
 {
     if question == ASKS_TOTAL {
-        return is_counter(kind);
+        return objects::is_counter(kind);
     }
     if question == ASKS_FLAG {
         return is_flag(kind);
     }
-    if is_counter(kind) {
+    if objects::is_counter(kind) {
         return false;
     }
     !is_flag(kind)

@@ -17,22 +17,17 @@ use layout::CLOCK_AT;
 use layout::KEY;
 use layout::KINDS_AT;
 use layout::OBJECTS_AT;
+use objects::ADD_WINS_SET;
+use objects::ADDS;
+use objects::CLEARS;
+use objects::ENABLE_WINS_FLAG;
+use objects::REMOVES;
 use rows::Arrival;
 use tags::RowCount;
 use tags::Station;
 
 // The refusal of an operation for which there is no room.
 pub const FULL: u32 = 8;
-
-const ADDS: u32 = 1;
-
-const REMOVES: u32 = 2;
-
-const CLEARS: u32 = 3;
-
-const ENABLE_WINS_FLAG: u32 = 5;
-
-const ADD_WINS_SET: u32 = 8;
 
 // The word of a row that says whether it is settled.
 const SETTLED: u32 = 0;
@@ -55,7 +50,7 @@ pub fn arrival_of(s: &[u32], object: u32, code: u32, value: u32, sender: Station
 {
     let end = KINDS_AT + tags::wide(s[OBJECTS_AT]);
     Arrival {
-        kind: allowing::kind_of(&s[KINDS_AT..end], object),
+        kind: objects::kind_of(&s[KINDS_AT..end], object),
         object: object,
         code: code,
         high: NO_HIGH,
@@ -103,7 +98,7 @@ fn puts_row(s: &[u32], size: usize, count: RowCount, a: Arrival, v: &[u32]) -> b
     requires { ⌜ Opened (now s) size (count .0) × (length (now v) ≡ size) ⌝ }
     ensures { λ r. ⌜ r ≡ puts (a .kind) (operationOf a (now (v .entry))) (tableOf (now (s .entry)) .rows) ⌝ }
 {
-    if rows::is_counter(a.kind) {
+    if objects::is_counter(a.kind) {
         return false;
     }
     if rows::is_kept(a.kind) {
@@ -190,7 +185,7 @@ fn arrive_total(s: &mut [u32], size: usize, count: RowCount, a: Arrival)
     requires { ⌜ Opened (now s) size (count .0) × (a .object < objectsIn (now s)) × (a .high ≡ 0) ⌝ }
     ensures { λ _. ⌜ now (s .exit) ≡ rewritten (now (s .entry)) (withTotals (tableOf (now (s .entry))) (totalsWith a (tableOf (now (s .entry))))) ⌝ }
 {
-    if rows::is_counter(a.kind) {
+    if objects::is_counter(a.kind) {
         table::change_total(s, size, count, tags::wide(a.object), a.low, a.code == ADDS);
     }
 }

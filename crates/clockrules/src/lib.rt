@@ -7,11 +7,9 @@ ghost use Rattle.meaning.specs.Table.{sumOfEntries, totalBound};
 ghost use Rattle.layout.specs.Words.{ofComplement, ofTwoWords, pieces, wordLimit};
 ghost use Rattle.clockrules.specs.ClockTests.{lastKept, totalKept, totalKeptAt};
 use layout::TOTAL_WORDS;
+use objects::GROW_COUNTER;
+use objects::UP_DOWN_COUNTER;
 use tags::Station;
-
-const GROW_COUNTER: u32 = 1;
-
-const UP_DOWN_COUNTER: u32 = 2;
 
 const GREATEST_AMOUNT: u64 = 1000000;
 

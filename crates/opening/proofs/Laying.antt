@@ -1,25 +1,23 @@
 -- The words of a fresh table: a head, the kinds, and zeros.
-use Prim.Native.Nat.{ℕ, zero, suc, _+_, _-_, _*_, _/_, _%_, _≤_, _<_}
+use Prim.Native.Nat.{ℕ, zero, suc, _+_, _-_, _*_, _≤_, _<_}
 use mathlib.Core.Path.{_≡_, refl, sym, ap, _∙_}
-use mathlib.Core.Bool.{Bool, true, false}
-use mathlib.Core.List.{List, [], _∷_, _++_, append-assoc, append-nil, map}
-use native.Mathlib.Nat.{mul-le-mul, suc-mul, zero-mul}
-use native.Mathlib.Numerals.{add-one}
+use mathlib.Core.Bool.{true}
+use mathlib.Core.List.{List, [], _∷_, _++_, append-assoc}
+use native.Mathlib.Nat.{suc-mul, zero-mul}
 use native.Mathlib.Omega.{arith}
 use mir.Val.{Fits}
-use mir.Syntax.{w32, w64}
-use lib.Dec.{ltb}
-use lib.IntN.{ℤ, pos}
-use lib.ListN.{length, getD, take, drop, set, replicate, length-append, length-replicate, length-set, replicate-append-replicate}
+use mir.Syntax.{w32}
+use lib.IntN.{pos}
+use lib.ListN.{length, getD, take, drop, set, replicate, length-replicate, replicate-append-replicate}
 use lib.Seq.{paste, take-all, take-at, drop-at, drop-drop}
-use Rattle.meaning.specs.Tests.{allHold}
-use Rattle.meaning.specs.Table.{Header, Table, headerRules, inRange, zeros, opened}
+use Rattle.meaning.specs.Table.{Header, inRange, zeros, opened}
 use Rattle.meaning.proofs.TableFacts.{HeaderFacts, header-facts}
-use Rattle.layout.specs.Words.{complement, flat, padded}
-use Rattle.layout.specs.Layout.{wordsOf, totalWords, totalsWords, spaceFor, tableMark}
+use Rattle.layout.specs.Words.{complement, flat}
+use Rattle.layout.specs.Layout.{wordsOf, totalsWords, spaceFor, tableMark}
 use Rattle.layout.proofs.Reading.{in-a-row}
 use Rattle.moves.proofs.Moving.{put-turn as put-one}
-use Rattle.opening.specs.Opening.{headed, headerOf}
+use Rattle.ranges.specs.Headers.{headerOf}
+use Rattle.opening.specs.Opening.{headed}
 
 -- zeros one after the other
 zeros-join : (a b : ℕ) (x : List ℕ) → replicate a 0 ++ (replicate b 0 ++ x) ≡ replicate (a + b) 0 ++ x
@@ -75,38 +73,23 @@ module _ (s kinds : List ℕ) (size own capacity : ℕ) (range : inRange (header
   H : HeaderFacts (headerOf size own capacity kinds)
   H = header-facts (headerOf size own capacity kinds) range
 
+  pub small : capacity ≤ 512
+  small = H .capacity-range .1
+
   module _ (n : ℕ) (en : n ≡ size) where
-    few : n ≤ 16
+    pub few : n ≤ 16
     few = let h = H .size-range .1 in omega arith
 
-    square : n * n ≤ 256
-    square = mul-le-mul few few
+    module _ (needed : ℕ) (e : needed ≡ spaceFor n capacity) where
+      pub kinds-fit : 7 + length kinds ≤ needed
+      kinds-fit = let h = H .objects-range .1 in rw e (omega arith)
 
-    pub square-fits : Fits w64 (n * n)
-    square-fits = omega (arith, square)
+      pub needed-room : needed ≤ length s
+      needed-room = rw (e, en) room
 
-    pub front-fits : Fits w64 (103 + n + n * n)
-    front-fits = omega (arith, square, few)
-
-  module _ (n c : ℕ) (en : n ≡ size) (ec : c ≡ capacity) where
-    area : c * (7 + n) ≤ 512 * 23
-    area = mul-le-mul (let h = H .capacity-range .1 in let q : c ≤ 512 = omega arith in q) (let q : 7 + n ≤ 23 = omega (arith, few n en) in q)
-
-    pub area-fits : Fits w64 (c * (7 + n))
-    area-fits = omega (arith, area)
-
-    pub needed-fits : Fits w64 (103 + n + n * n + c * (7 + n))
-    needed-fits = omega (arith, area, square n en, few n en)
-
-    pub kinds-fit : 7 + length kinds ≤ 103 + n + n * n + c * (7 + n)
-    kinds-fit = let h = H .objects-range .1 in omega arith
-
-    pub needed-room : 103 + n + n * n + c * (7 + n) ≤ length s
-    needed-room = rw (en, ec) room
-
-    pub table-laid : (x : List ℕ) → x ≡ headed (1919904876 ∷ size ∷ own ∷ capacity ∷ length kinds ∷ 0 ∷ 0 ∷ []) kinds (103 + n + n * n + c * (7 + n)) s → x ≡ wordsOf (opened (headerOf size own capacity kinds)) ++ drop (spaceFor size capacity) s
-    unfolding headed
-    table-laid x e = e ∙ rw (en, ec) (sym (fresh-words (headerOf size own capacity kinds) (drop (spaceFor size capacity) s) (H .objects-range .1)))
+      pub table-laid : (x : List ℕ) → x ≡ headed (1919904876 ∷ size ∷ own ∷ capacity ∷ length kinds ∷ 0 ∷ 0 ∷ []) kinds needed s → x ≡ wordsOf (opened (headerOf size own capacity kinds)) ++ drop (spaceFor size capacity) s
+      unfolding headed
+      table-laid x f = f ∙ rw (e, en) (sym (fresh-words (headerOf size own capacity kinds) (drop (spaceFor size capacity) s) (H .objects-range .1)))
 
   pub objects-fit : Fits w32 (length kinds)
   objects-fit = let h = H .objects-range .1 in omega arith

@@ -7,9 +7,8 @@ ghost use lib.ListN.{length, drop};
 ghost use lib.Seq.{paste};
 ghost use Rattle.meaning.specs.Table.{inRange, opened};
 ghost use Rattle.layout.specs.Layout.{kindsAt, spaceFor, wordsOf};
-ghost use Rattle.opening.specs.Opening.{headed, headerOf};
-use layout::CLOCK_AT;
-use layout::KEY;
+ghost use Rattle.ranges.specs.Headers.{headerOf};
+ghost use Rattle.opening.specs.Opening.{headed};
 use layout::KINDS_AT;
 use layout::TABLE_MARK;
 use tags::RowCount;
@@ -49,11 +48,7 @@ pub fn lay_table(s: &mut [u32], size: u32, own: Station, capacity: RowCount, kin
     requires { ⌜ (inRange (headerOf size (own .0) (capacity .0) (now kinds)) ≡ true) × (spaceFor size (capacity .0) ≤ length (now s)) ⌝ }
     ensures { λ _. ⌜ now (s .exit) ≡ wordsOf (opened (headerOf size (own .0) (capacity .0) (now (kinds .entry)))) ++ drop (spaceFor size (capacity .0)) (now (s .entry)) ⌝ }
 {
-    let stations = tags::wide(size);
-    let needed = CLOCK_AT
-        + stations
-        + stations * stations
-        + tags::wide(capacity.0) * (KEY + stations);
+    let needed = ranges::space_for(tags::wide(size), capacity);
     let objects = kinds.len() as u32;
     let head = [TABLE_MARK, size, own.0, capacity.0, objects, 0, 0];
     lay(s, &head, kinds, needed);

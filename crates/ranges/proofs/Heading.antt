@@ -18,17 +18,17 @@ use Rattle.layout.specs.Layout.{spaceFor}
 use Rattle.ranges.specs.Headers.{headerOf}
 
 -- a number in a range
-module _ (number greatest : ℕ) where
-  pub range-below : number < 1 → false ≡ between 1 greatest number
+module _ (number least greatest : ℕ) where
+  pub range-below : number < least → false ≡ between least greatest number
   unfolding between
-  range-below h = rw (lt-leb 1 number h) refl
+  range-below h = rw (lt-leb least number h) refl
 
-  pub range-from : 1 ≤ number → leb number greatest ≡ between 1 greatest number
+  pub range-from : least ≤ number → leb number greatest ≡ between least greatest number
   unfolding between
-  range-from h = rw (le-leb 1 number h) refl
+  range-from h = rw (le-leb least number h) refl
 
-pub range-there : (wide number greatest : ℕ) → wide ≡ number → (r : Bool) → r ≡ between 1 greatest wide → r ≡ between 1 greatest number
-range-there wide number greatest e r f = f ∙ rw e refl
+pub objects-from : (objects most : ℕ) → 1 ≤ objects → most ≡ 32 → leb objects most ≡ between 1 32 objects
+objects-from objects most h e = rw e (range-from objects 1 32 h)
 
 -- i kinds are passed: what was noted and the test of the rest make the test of all
 pub record Known (kinds : List ℕ) (good : Bool) (i : ℕ) : Type 0 where
@@ -73,9 +73,9 @@ module _ (size own capacity : ℕ) (kinds : List ℕ) (a : Bool) (ea : a ≡ bet
         unfolding inRange headerRules
         range-kinds f = rw (sym ea ∙ ta, lt-ltb own size o, sym eb ∙ tb, sym ec ∙ f) refl
 
-        pub range-capacity : c ≡ true → (rows : ℕ) → rows ≡ capacity → (d : Bool) → d ≡ between 1 512 rows → d ≡ inRange (headerOf size own capacity kinds)
+        pub range-capacity : c ≡ true → (d : Bool) → d ≡ between 1 512 capacity → d ≡ inRange (headerOf size own capacity kinds)
         unfolding inRange headerRules
-        range-capacity f rows e d ed = ed ∙ rw (sym ea ∙ ta, lt-ltb own size o, sym eb ∙ tb, sym ec ∙ f, e) (sym (and-true (between 1 512 capacity)))
+        range-capacity f d ed = ed ∙ rw (sym ea ∙ ta, lt-ltb own size o, sym eb ∙ tb, sym ec ∙ f) (sym (and-true (between 1 512 capacity)))
 
 -- the space
 square : (n : ℕ) → n ≤ 16 → n * n ≤ 256
@@ -87,6 +87,9 @@ square-fits n h = omega (arith, square n h)
 pub rows-place-fits : (n : ℕ) → n ≤ 16 → Fits w64 (103 + n + n * n)
 rows-place-fits n h = omega (arith, square n h)
 
+pub rows-place : (n : ℕ) → n ≤ 16 → 103 + n + n * n ≤ 375
+rows-place n h = omega (arith, square n h)
+
 area : (n c : ℕ) → n ≤ 16 → c ≤ 512 → c * (7 + n) ≤ 11776
 area n c h k = let w : 7 + n ≤ 23 = omega arith in mul-le-mul k w
 
@@ -95,8 +98,12 @@ module _ (n capacity c : ℕ) (h : n ≤ 16) (k : capacity ≤ 512) (e : c ≡ c
   pub area-fits : Fits w64 (c * (7 + n))
   area-fits = rw e (omega (arith, area n capacity h k))
 
-  pub space-fits : Fits w64 (103 + n + n * n + c * (7 + n))
-  space-fits = rw e (omega (arith, area n capacity h k, square n h))
+  module _ (r : ℕ) (l : r ≤ 375) where
+    pub space-fits : Fits w64 (r + c * (7 + n))
+    space-fits = rw e (omega (arith, area n capacity h k))
 
-  pub space-is : 103 + n + n * n + c * (7 + n) ≡ spaceFor n capacity
-  space-is = rw e refl
+    pub space-most : r + c * (7 + n) ≤ 12151
+    space-most = rw e (omega (arith, area n capacity h k))
+
+    pub space-is : r ≡ 103 + n + n * n → r + c * (7 + n) ≡ spaceFor n capacity
+    space-is q = rw (e, q) refl

@@ -2,47 +2,48 @@
 ghost use mathlib.Core.Path.{_≡_};
 ghost use Prim.Native.Nat.{_≤_};
 ghost use Rattle.meaning.specs.Tests.{between, every};
-ghost use Rattle.meaning.specs.Table.{greatestKind, greatestSize, inRange};
-ghost use Rattle.layout.specs.Layout.{spaceFor};
+ghost use Rattle.meaning.specs.Table.{greatestKind, inRange, mostObjects};
+ghost use Rattle.layout.specs.Layout.{rowsAt, spaceFor};
 ghost use Rattle.ranges.specs.Headers.{headerOf};
+ghost use Rattle.ranges.specs.Spaces.{mostBeforeRows, mostWords};
 use layout::CLOCK_AT;
 use layout::KEY;
 use tags::RowCount;
 use tags::Station;
 
-const GREATEST_SIZE: usize = 16;
+pub const GREATEST_SIZE: u32 = 16;
 
-const GREATEST_CAPACITY: usize = 512;
+pub const GREATEST_CAPACITY: u32 = 512;
 
-const MOST_OBJECTS: usize = 32;
+pub const MOST_OBJECTS: u32 = 32;
 
-const GREATEST_KIND: u8 = 9;
+pub const GREATEST_KIND: u32 = 9;
 
-// Whether a number is from 1 to the greatest.
-fn in_range(number: usize, greatest: usize) -> bool
-    ensures { λ r. ⌜ r ≡ between 1 greatest number ⌝ }
+// Whether a number is from the least to the greatest.
+pub fn in_range(number: u32, least: u32, greatest: u32) -> bool
+    ensures { λ r. ⌜ r ≡ between least greatest number ⌝ }
 {
-    if number < 1 {
+    if number < least {
         return false;
     }
     number <= greatest
 }
 
-// Whether a group may have this many stations.
-fn is_size(size: u32) -> bool
-    ensures { λ r. ⌜ r ≡ between 1 greatestSize size ⌝ }
+// Whether a table may have so many objects; a length need not fit a word.
+fn is_object_count(objects: usize) -> bool
+    ensures { λ r. ⌜ r ≡ between 1 mostObjects objects ⌝ }
 {
-    in_range(tags::wide(size), GREATEST_SIZE)
+    if objects < 1 {
+        return false;
+    }
+    objects <= tags::wide(MOST_OBJECTS)
 }
 
 // Whether a kind is one of the nine.
 fn is_kind(kind: u8) -> bool
     ensures { λ r. ⌜ r ≡ between 1 greatestKind kind ⌝ }
 {
-    if kind < 1 {
-        return false;
-    }
-    kind <= GREATEST_KIND
+    in_range(kind as u32, 1, GREATEST_KIND)
 }
 
 // Whether every kind is one of the nine.
@@ -64,25 +65,33 @@ fn kinds_known(kinds: &[u8]) -> bool
 pub fn header_ok(size: u32, own: Station, capacity: RowCount, kinds: &[u8]) -> bool
     ensures { λ r. ⌜ r ≡ inRange (headerOf size (own .0) (capacity .0) (now (kinds .entry))) ⌝ }
 {
-    if !is_size(size) {
+    if !in_range(size, 1, GREATEST_SIZE) {
         return false;
     }
     if size <= own.0 {
         return false;
     }
-    if !in_range(kinds.len(), MOST_OBJECTS) {
+    if !is_object_count(kinds.len()) {
         return false;
     }
     if !kinds_known(kinds) {
         return false;
     }
-    in_range(tags::wide(capacity.0), GREATEST_CAPACITY)
+    in_range(capacity.0, 1, GREATEST_CAPACITY)
+}
+
+// Where the rows of a group of this size start.
+pub fn rows_at(size: usize) -> usize
+    requires { ⌜ size ≤ 16 ⌝ }
+    ensures { λ r. ⌜ (r ≡ rowsAt size) × (r ≤ mostBeforeRows) ⌝ }
+{
+    CLOCK_AT + size + size * size
 }
 
 // How many words a table needs.
 pub fn space_for(size: usize, capacity: RowCount) -> usize
     requires { ⌜ (size ≤ 16) × (capacity .0 ≤ 512) ⌝ }
-    ensures { λ r. ⌜ r ≡ spaceFor size (capacity .0) ⌝ }
+    ensures { λ r. ⌜ (r ≡ spaceFor size (capacity .0)) × (r ≤ mostWords) ⌝ }
 {
-    CLOCK_AT + size + size * size + tags::wide(capacity.0) * (KEY + size)
+    rows_at(size) + tags::wide(capacity.0) * (KEY + size)
 }

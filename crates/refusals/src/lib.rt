@@ -75,7 +75,7 @@ pub fn frame_refusal(
     let own = h.own;
     let stranger = is_stranger(sender, h.size, own);
     let undeclared = !allowing::is_declared(kinds, f.object);
-    let forbidden = !allowing::is_allowed(allowing::kind_of(kinds, f.object), f.code, f.value);
+    let forbidden = !allowing::is_allowed(objects::kind_of(kinds, f.object), f.code, f.value);
     let known = timing::is_known(v, clock, sender);
     let early = !timing::in_time(v, clock, sender);
     let falling = !timing::keeps_rising(lasts, v, sender);
@@ -113,7 +113,7 @@ pub fn issue_refusal(
 {
     let own = h.own;
     let declared = allowing::is_declared(kinds, object);
-    let allowed = allowing::is_allowed(allowing::kind_of(kinds, object), code, value);
+    let allowed = allowing::is_allowed(objects::kind_of(kinds, object), code, value);
     let last = timing::is_last(clock, own);
     if !declared {
         return UNDECLARED;
@@ -133,7 +133,7 @@ pub fn question_refusal(kinds: &[u32], object: u32, question: u32, value: u32) -
 {
     let well_asked = allowing::well_asked(question, value);
     let object_declared = allowing::is_declared(kinds, object);
-    let fitted = allowing::is_fitted(question, allowing::kind_of(kinds, object));
+    let fitted = allowing::is_fitted(question, objects::kind_of(kinds, object));
     if !well_asked {
         return MISASKED;
     }

@@ -1,6 +1,6 @@
 -- What a row's kind lets it hold.
 use Prim.Native.Nat.{ℕ, _+_, _*_, _≤_, _<_}
-use mathlib.Core.Path.{_≡_, refl, sym, ap, subst, _∙_}
+use mathlib.Core.Path.{_≡_, refl, sym, subst, _∙_}
 use mathlib.Core.Bool.{Bool, true, false, not, _&&_, _||_, cond}
 use mathlib.Core.List.{List, [], _∷_}
 use native.Mathlib.Omega.{arith}
@@ -126,11 +126,3 @@ module _ (kind : ℕ) (row : List ℕ) (r : Bool) (s : r ≡ storable kind (rowO
     pub content-word : high ≡ 0 → (kind ≡ 5 → ⊥) → (kind ≡ 6 → ⊥) → true ≡ contentKept kind (rowOf row .operation)
     unfolding isFlag
     content-word h a b = let q : high * 4294967296 + low ≡ low = omega arith in sym (valued ∙ rw (ne-eqb kind 5 a, ne-eqb kind 6 b, q) (lt-ltb low 4294967296 (omega (arith, known 2))))
-
--- an object that is declared has its kind, another none
-module _ (kinds : List ℕ) (place object : ℕ) (e : place ≡ object) where
-  pub kind-there : getD kinds place 0 ≡ getD kinds object 0
-  kind-there = ap (λ (n : ℕ). getD kinds n 0) e
-
-  pub kind-nowhere : length kinds ≤ place → 0 ≡ getD kinds object 0
-  kind-nowhere h = sym (List·getD-eq-default kinds 0 h) ∙ kind-there

@@ -1,7 +1,7 @@
 // The table rules of rows in lent words: each row by itself, and with the one before it.
 ghost use mathlib.Core.Path.{_≡_};
 ghost use Prim.Native.Nat.{_+_, _*_, _≤_};
-ghost use lib.ListN.{length, getD};
+ghost use lib.ListN.{length};
 ghost use Rattle.meaning.specs.Tests.{every};
 ghost use Rattle.meaning.specs.Table.{storable};
 ghost use Rattle.layout.specs.Words.{allZero, pieces};
@@ -17,25 +17,16 @@ use layout::OBJECT_AT;
 use layout::TAG_AT;
 use layout::UNSETTLED_AT;
 use layout::VECTOR_AT;
+use objects::ADDS;
+use objects::DISABLE_WINS_FLAG;
+use objects::ENABLE_WINS_FLAG;
+use objects::GROW_SET;
+use objects::REMOVE_WINS_SET;
+use objects::REMOVES;
+use objects::TWO_PHASE_SET;
 use tags::Number;
 use tags::RowCount;
 use tags::Station;
-
-const ADDS: u32 = 1;
-
-const REMOVES: u32 = 2;
-
-const NO_KIND: u32 = 0;
-
-const GROW_SET: u32 = 3;
-
-const TWO_PHASE_SET: u32 = 4;
-
-const ENABLE_WINS_FLAG: u32 = 5;
-
-const DISABLE_WINS_FLAG: u32 = 6;
-
-const REMOVE_WINS_SET: u32 = 9;
 
 const UNSETTLED: u32 = 1;
 
@@ -52,17 +43,6 @@ pub fn all_zero(words: &[u32]) -> bool
         i += 1;
     }
     good
-}
-
-// The kind of an object, or none where it is not declared.
-pub fn kind_of(kinds: &[u32], object: u32) -> u32
-    ensures { λ r. ⌜ r ≡ getD (now (kinds .entry)) object 0 ⌝ }
-{
-    let at = tags::wide(object);
-    if at < kinds.len() {
-        return kinds[at];
-    }
-    NO_KIND
 }
 
 // Whether a row of this kind may have this code: adds in all that keep rows, removes where they bar or stand.
@@ -148,7 +128,7 @@ fn row_ok(row: &[u32], kinds: &[u32], clock: &[u32]) -> bool
     requires { ⌜ length (now row) ≡ rowWidth (length (now clock)) ⌝ }
     ensures { λ r. ⌜ r ≡ rowKept (now (kinds .entry)) (now (clock .entry)) (now (row .entry)) ⌝ }
 {
-    let kind = kind_of(kinds, row[OBJECT_AT]);
+    let kind = objects::kind_of(kinds, row[OBJECT_AT]);
     if content_ok(kind, row) {
         if row[UNSETTLED_AT] == 0 {
             return all_zero(&row[TAG_AT..]);
@@ -193,7 +173,7 @@ fn may_follow(before: &[u32], row: &[u32], kinds: &[u32]) -> bool
     requires { ⌜ (length (now before) ≡ keyWords) × (length (now row) ≡ keyWords) ⌝ }
     ensures { λ r. ⌜ r ≡ follows (now (kinds .entry)) (now (before .entry)) (now (row .entry)) ⌝ }
 {
-    if kind_of(kinds, row[OBJECT_AT]) == TWO_PHASE_SET {
+    if objects::kind_of(kinds, row[OBJECT_AT]) == TWO_PHASE_SET {
         if has_same_value(before, row) {
             return false;
         }

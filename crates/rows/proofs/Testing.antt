@@ -1,8 +1,8 @@
 -- The tests of a row, in the words of the meaning.
-use Prim.Native.Nat.{ℕ, zero, suc, _+_, _-_, _*_, _≤_, _<_}
-use mathlib.Core.Path.{_≡_, refl, sym, ap, _∙_}
-use mathlib.Core.Bool.{Bool, true, false, not, _&&_, _||_, cond, false≢true}
-use mathlib.Core.List.{List, [], _∷_, _++_}
+use Prim.Native.Nat.{ℕ, _+_, _-_, _<_}
+use mathlib.Core.Path.{_≡_, refl, sym, _∙_}
+use mathlib.Core.Bool.{Bool, true, false}
+use mathlib.Core.List.{List}
 use native.Mathlib.Omega.{arith}
 use borrow.Author.Tests.{eqb-true, eq-eqb, ne-eqb}
 use lib.Dec.{eqb}
@@ -83,21 +83,6 @@ module _ (row v : List ℕ) (a : Arrival) where
     takes-before f z l b g =
         let q : take (length row - 7) (drop 7 row) ≡ drop 7 row = take-all (length row - 7) (drop 7 row) (simp length-drop (omega arith)) in
         rw (eq-eqb (a .object) (getD row 0 0) (sym o), sym e ∙ f, ne-eqb (getD row 4 0) 0 z) (g ∙ rw q refl)
-
--- two tests one after the other
-pub either-first : (x m n : ℕ) → x ≡ m → true ≡ (eqb x m || eqb x n)
-either-first x m n e = rw (eq-eqb x m e) refl
-
-pub either-second : (x m n : ℕ) → (x ≡ m → ⊥) → eqb x n ≡ (eqb x m || eqb x n)
-either-second x m n e = rw (ne-eqb x m e) refl
-
-pub counter-first : (kind : ℕ) → kind ≡ 1 → true ≡ isCounter kind
-unfolding isCounter
-counter-first kind e = either-first kind 1 2 e
-
-pub counter-second : (kind : ℕ) → (kind ≡ 1 → ⊥) → eqb kind 2 ≡ isCounter kind
-unfolding isCounter
-counter-second kind e = either-second kind 1 2 e
 
 -- whether a row goes
 module _ (kind : ℕ) (t : Operation) (row : Row) (c : Bool) (ec : c ≡ isCounter kind) where

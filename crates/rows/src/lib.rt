@@ -3,7 +3,6 @@ ghost use mathlib.Core.Path.{_≡_};
 ghost use mathlib.Core.List.{_++_};
 ghost use Prim.Native.Nat.{_+_, _*_, _≤_};
 ghost use lib.ListN.{length, drop};
-ghost use Rattle.meaning.specs.Operations.{isCounter};
 ghost use Rattle.meaning.specs.Arrival.{sameValue, takenBy};
 ghost use Rattle.layout.specs.Words.{flat, padded};
 ghost use Rattle.layout.specs.Layout.{rowOf, rowWidth};
@@ -13,6 +12,11 @@ use layout::LOW_AT;
 use layout::OBJECT_AT;
 use layout::UNSETTLED_AT;
 use layout::VECTOR_AT;
+use objects::ADDS;
+use objects::CLEARS;
+use objects::GROW_SET;
+use objects::MULTI_VALUE_REGISTER;
+use objects::TWO_PHASE_SET;
 use tags::RowCount;
 use tags::Station;
 
@@ -25,20 +29,6 @@ pub struct Arrival {
     pub low: u32,
     pub sender: Station,
 }
-
-const ADDS: u32 = 1;
-
-const CLEARS: u32 = 3;
-
-const GROW_COUNTER: u32 = 1;
-
-const UP_DOWN_COUNTER: u32 = 2;
-
-const GROW_SET: u32 = 3;
-
-const TWO_PHASE_SET: u32 = 4;
-
-const MULTI_VALUE_REGISTER: u32 = 7;
 
 // Whether a row is of the arrival's object and value.
 pub fn same_value(row: &[u32], a: Arrival, v: &[u32]) -> bool
@@ -88,16 +78,6 @@ fn takes(row: &[u32], a: Arrival, v: &[u32]) -> bool
     }
 }
 
-// Whether objects of this kind are counters, which keep no rows.
-pub fn is_counter(kind: u32) -> bool
-    ensures { λ r. ⌜ r ≡ isCounter kind ⌝ }
-{
-    if kind == GROW_COUNTER {
-        return true;
-    }
-    kind == UP_DOWN_COUNTER
-}
-
 // Whether objects of this kind keep settled rows only.
 pub fn is_kept(kind: u32) -> bool
     ensures { λ r. ⌜ r ≡ isKept kind ⌝ }
@@ -113,7 +93,7 @@ pub fn row_goes(row: &[u32], a: Arrival, v: &[u32]) -> bool
     requires { ⌜ length (now row) ≡ rowWidth (length (now v)) ⌝ }
     ensures { λ r. ⌜ r ≡ goes (a .kind) (operationOf a (now (v .entry))) (rowOf (now (row .entry))) ⌝ }
 {
-    if is_counter(a.kind) {
+    if objects::is_counter(a.kind) {
         return false;
     }
     if is_kept(a.kind) {

@@ -1,60 +1,16 @@
 -- The head of a table, by its words.
-use Prim.Native.Nat.{ℕ, _+_, _-_, _*_, _≤_, _<_}
+use Prim.Native.Nat.{ℕ, _-_, _≤_, _<_}
 use mathlib.Core.Path.{_≡_, refl, sym, _∙_}
 use mathlib.Core.Bool.{Bool, true, false, not, _&&_, and-false}
 use mathlib.Core.List.{List}
-use native.Mathlib.Nat.{mul-le-mul}
 use native.Mathlib.Omega.{arith}
 use borrow.Author.Tests.{eqb-true, eq-eqb, ne-eqb, ltb-true, lt-ltb, le-ltb, leb-true, le-leb, lt-leb, not-false}
-use mir.Val.{Fits}
-use mir.Syntax.{w64}
 use lib.Dec.{leb, ltb, eqb}
 use lib.ListN.{length, getD}
 use Rattle.meaning.specs.Tests.{between}
 use Rattle.meaning.proofs.Tests.{and-left, and-right, between-out, between-in}
 use Rattle.layout.specs.Layout.{tableMark, spaceFor, sizeIn, ownIn, capacityIn, objectsIn, countIn}
 use Rattle.rules.specs.TableTests.{sizesKept, headKept, Headed}
-
--- a number in a range
-module _ (number least greatest : ℕ) where
-  pub range-below : number < least → false ≡ between least greatest number
-  unfolding between
-  range-below h = rw (lt-leb least number h) refl
-
-  pub range-from : least ≤ number → leb number greatest ≡ between least greatest number
-  unfolding between
-  range-from h = rw (le-leb least number h) refl
-
--- places of parts
-square : (n : ℕ) → n ≤ 16 → n * n ≤ 256
-square n h = mul-le-mul h h
-
-pub square-fits : (n : ℕ) → n ≤ 16 → Fits w64 (n * n)
-square-fits n h = omega (arith, square n h)
-
-pub rows-place-fits : (n : ℕ) → n ≤ 16 → Fits w64 (103 + n + n * n)
-rows-place-fits n h = omega (arith, square n h)
-
-pub rows-place : (n : ℕ) → n ≤ 16 → 103 + n + n * n ≤ 375
-rows-place n h = omega (arith, square n h)
-
-area : (n c : ℕ) → n ≤ 16 → c ≤ 512 → c * (7 + n) ≤ 11776
-area n c h k = let w : 7 + n ≤ 23 = omega arith in mul-le-mul k w
-
--- the number of rows as a place
-module _ (n capacity c : ℕ) (h : n ≤ 16) (k : capacity ≤ 512) (e : c ≡ capacity) where
-  pub area-fits : Fits w64 (c * (7 + n))
-  area-fits = rw e (omega (arith, area n capacity h k))
-
-  module _ (r : ℕ) (l : r ≤ 375) where
-    pub space-fits : Fits w64 (r + c * (7 + n))
-    space-fits = rw e (omega (arith, area n capacity h k))
-
-    pub space-most : r + c * (7 + n) ≤ 12151
-    space-most = rw e (omega (arith, area n capacity h k))
-
-    pub space-is : r ≡ 103 + n + n * n → r + c * (7 + n) ≡ spaceFor n capacity
-    space-is q = rw (e, q) refl
 
 -- the numbers of the head: a test that fails decides, whatever the ones before it say
 past-two : (a b : Bool) → false ≡ (a && (b && false))

@@ -42,13 +42,6 @@ pub record Headed (words : List ℕ) : Type 0 where
   pub within : countIn words ≤ capacityIn words
   pub room : spaceFor (sizeIn words) (capacityIn words) ≤ length words
 
--- No table has more words, before its rows and altogether: 16 stations, 512 rows.
-abbrev pub mostBeforeRows : ℕ
-mostBeforeRows = 375
-
-abbrev pub mostWords : ℕ
-mostWords = 12151
-
 abbrev pub kindsIn : List ℕ → List ℕ
 kindsIn words = take (objectsIn words) (drop kindsAt words)
 

@@ -4,9 +4,9 @@ ghost use Prim.Native.Nat.{_≤_};
 ghost use lib.Dec.{leb};
 ghost use lib.ListN.{length};
 ghost use Rattle.meaning.specs.Tests.{between, every};
-ghost use Rattle.layout.specs.Layout.{capacityIn, holdsTable, rowsAt, rowsIn, sizeIn, spaceFor};
+ghost use Rattle.layout.specs.Layout.{capacityIn, holdsTable, rowsIn, sizeIn, spaceFor};
 ghost use Rattle.rowrules.specs.RowTests.{rowsKept};
-ghost use Rattle.rules.specs.TableTests.{clockIn, headKept, Headed, kindsIn, kindsKept, lastsKept, mostBeforeRows, mostWords, partsKept, sizesKept, totalsKept, unusedKept};
+ghost use Rattle.rules.specs.TableTests.{clockIn, headKept, Headed, kindsIn, kindsKept, lastsKept, partsKept, sizesKept, totalsKept, unusedKept};
 use layout::CAPACITY_AT;
 use layout::CLOCK_AT;
 use layout::COUNT_AT;
@@ -20,29 +20,15 @@ use layout::SIZE_AT;
 use layout::TABLE_MARK;
 use layout::TOTAL_WORDS;
 use layout::TOTALS_AT;
+use ranges::GREATEST_CAPACITY;
+use ranges::GREATEST_KIND;
+use ranges::GREATEST_SIZE;
+use ranges::MOST_OBJECTS;
 use tags::RowCount;
 use tags::Station;
 
 // What the seventh word holds when no load is under way.
 const IDLE: u32 = 0;
-
-const GREATEST_SIZE: u32 = 16;
-
-const GREATEST_CAPACITY: u32 = 512;
-
-const MOST_OBJECTS: u32 = 32;
-
-const GREATEST_KIND: u32 = 9;
-
-// Whether a number is from the least to the greatest.
-fn in_range(number: u32, least: u32, greatest: u32) -> bool
-    ensures { λ r. ⌜ r ≡ between least greatest number ⌝ }
-{
-    if number < least {
-        return false;
-    }
-    number <= greatest
-}
 
 // Whether every word is from the least to the greatest.
 fn all_in_range(words: &[u32], least: u32, greatest: u32) -> bool
@@ -51,7 +37,7 @@ fn all_in_range(words: &[u32], least: u32, greatest: u32) -> bool
     let mut good = true;
     let mut i = 0;
     while i < words.len() {
-        if !in_range(words[i], least, greatest) {
+        if !ranges::in_range(words[i], least, greatest) {
             good = false;
         }
         i += 1;
@@ -64,35 +50,19 @@ fn sizes_ok(size: u32, own: Station, capacity: RowCount, objects: u32, count: Ro
     ensures { λ r. ⌜ r ≡ sizesKept size (own .0) (capacity .0) objects (count .0) ⌝ }
 {
     let most = capacity.0;
-    if !in_range(size, 1, GREATEST_SIZE) {
+    if !ranges::in_range(size, 1, GREATEST_SIZE) {
         return false;
     }
     if size <= own.0 {
         return false;
     }
-    if !in_range(most, 1, GREATEST_CAPACITY) {
+    if !ranges::in_range(most, 1, GREATEST_CAPACITY) {
         return false;
     }
-    if !in_range(objects, 1, MOST_OBJECTS) {
+    if !ranges::in_range(objects, 1, MOST_OBJECTS) {
         return false;
     }
     count.0 <= most
-}
-
-// Where the rows of a group of this size start.
-fn rows_at(size: usize) -> usize
-    requires { ⌜ size ≤ 16 ⌝ }
-    ensures { λ r. ⌜ (r ≡ rowsAt size) × (r ≤ mostBeforeRows) ⌝ }
-{
-    CLOCK_AT + size + size * size
-}
-
-// How many words a table needs.
-fn space_for(size: usize, capacity: RowCount) -> usize
-    requires { ⌜ (size ≤ 16) × (capacity .0 ≤ 512) ⌝ }
-    ensures { λ r. ⌜ (r ≡ spaceFor size (capacity .0)) × (r ≤ mostWords) ⌝ }
-{
-    rows_at(size) + tags::wide(capacity.0) * (KEY + size)
 }
 
 // Whether the words are enough for the table that the head describes.
@@ -100,7 +70,7 @@ fn has_room(s: &[u32]) -> bool
     requires { ⌜ (103 ≤ length (now s)) × (sizeIn (now s) ≤ 16) × (capacityIn (now s) ≤ 512) ⌝ }
     ensures { λ r. ⌜ r ≡ leb (spaceFor (sizeIn (now (s .entry))) (capacityIn (now (s .entry)))) (length (now (s .entry))) ⌝ }
 {
-    space_for(tags::wide(s[SIZE_AT]), RowCount(s[CAPACITY_AT])) <= s.len()
+    ranges::space_for(tags::wide(s[SIZE_AT]), RowCount(s[CAPACITY_AT])) <= s.len()
 }
 
 // Whether the head is a table's.
@@ -171,7 +141,7 @@ fn rows_kept(s: &[u32]) -> bool
     let size = tags::wide(s[SIZE_AT]);
     let kinds_end = KINDS_AT + tags::wide(s[OBJECTS_AT]);
     let clock_end = CLOCK_AT + size;
-    let start = rows_at(size);
+    let start = ranges::rows_at(size);
     rowrules::rows_ok(
         &s[start..],
         KEY + size,
@@ -187,8 +157,8 @@ fn unused_ok(s: &[u32]) -> bool
     ensures { λ r. ⌜ r ≡ unusedKept (now (s .entry)) ⌝ }
 {
     let size = tags::wide(s[SIZE_AT]);
-    let start = space_for(size, RowCount(s[COUNT_AT]));
-    let end = space_for(size, RowCount(s[CAPACITY_AT]));
+    let start = ranges::space_for(size, RowCount(s[COUNT_AT]));
+    let end = ranges::space_for(size, RowCount(s[CAPACITY_AT]));
     rowrules::all_zero(&s[start..end])
 }
 

@@ -11,9 +11,8 @@ ghost use Rattle.scans.specs.Showing.{beforeShown, countShown, sameKey, 
 use layout::CODE_AT;
 use layout::HIGH_AT;
 use layout::LOW_AT;
+use objects::ADDS;
 use tags::RowCount;
-
-const ADDS: u32 = 1;
 
 // Values are 32-bit numbers: their high word is 0.
 const NO_HIGH: u32 = 0;

@@ -28,7 +28,8 @@ use Rattle.table.proofs.Changing.{opened, all-of, nothing-behind}
 use Rattle.checked.specs.Checked.{Checked}
 use Rattle.lows.specs.Below.{isBelow, othersBelow}
 use Rattle.lows.proofs.Least.{low-length, wide-others}
-use Rattle.settling.specs.Passing.{kindAt, Held, rowsThen, stepsThen}
+use Rattle.steps.specs.Held.{kindAt, Held}
+use Rattle.settling.specs.Passing.{rowsThen, stepsThen}
 
 -- each other station's vector
 every-other : (p : Vector → Bool) (own : ℕ) (l : List Vector) → ((k : ℕ) → k < length l → k ≢ own → p (getD l k []) ≡ true) → every p (othersOf own l) ≡ true

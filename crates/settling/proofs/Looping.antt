@@ -1,10 +1,10 @@
 -- The loop of a pass, with the width of a row in hand.
-use Prim.Native.Nat.{ℕ, zero, suc, _+_, _-_, _*_, _≤_, _<_}
-use mathlib.Core.Path.{_≡_, refl, sym, ap, _∙_, subst}
+use Prim.Native.Nat.{ℕ, _+_, _-_, _*_, _≤_, _<_}
+use mathlib.Core.Path.{_≡_, refl, _∙_, subst}
 use mathlib.Core.Logic.{_⊎_}
-use mathlib.Core.List.{List, [], _∷_, _++_, map}
+use mathlib.Core.List.{List, _∷_, _++_, map}
 use native.Mathlib.Omega.{arith}
-use lib.ListN.{length, take, drop, replicate}
+use lib.ListN.{length, take, drop}
 use lib.Seq.{paste}
 use mir.Val.{Fits}
 use mir.Syntax.{w64}
@@ -12,11 +12,13 @@ use Rattle.meaning.specs.Rows.{Row, settledRow}
 use Rattle.layout.specs.Words.{pieces, flat, padded}
 use Rattle.layout.specs.Layout.{rowOf, rowWords}
 use Rattle.rows.proofs.Dropping.{next-size}
-use Rattle.settling.specs.declared.Step.{Step}
-use Rattle.settling.specs.declared.Step.the-variants.{Keeps, Settles, Drops, DropsBoth}
-use Rattle.settling.specs.Stepping.{stepFor}
-use Rattle.settling.specs.Passing.{kindAt, Held, rowsThen, stepsThen, closedUp}
-use Rattle.settling.proofs.Passing.{Passing, passing-start, passing-keep, passing-settle, passing-drop, both-more, passing-both, held-ahead, here-room, row-spelt, passing-steps, passing-count, passing-done}
+use Rattle.steps.specs.declared.Step.{Step}
+use Rattle.steps.specs.declared.Step.the-variants.{Keeps, Settles, Drops, DropsBoth}
+use Rattle.steps.specs.Stepping.{stepFor}
+use Rattle.steps.specs.Held.{kindAt, Held}
+use Rattle.steps.proofs.OneStep.{row-spelt}
+use Rattle.settling.specs.Passing.{rowsThen, stepsThen, closedUp}
+use Rattle.settling.proofs.Passing.{Passing, passing-start, passing-keep, passing-settle, passing-drop, both-more, passing-both, held-ahead, here-room, passing-steps, passing-count, passing-done}
 
 -- Beside the pass: the width, and bounds that a sum of places asks for.
 pub record Loop (kinds low : List ℕ) (limit : ℕ) (s₀ : List ℕ) (n w count : ℕ) (s : List ℕ) (from to more left taken : ℕ) : Type 0 where
@@ -25,22 +27,23 @@ pub record Loop (kinds low : List ℕ) (limit : ℕ) (s₀ : List ℕ) (n w coun
   pub within : from ≤ length s
   pub below : to ≤ from
   pub fewer : left + more ≤ count
+  pub steps : taken + more ≤ count
   pub word : count < 4294967296
   pub pass : Passing kinds low limit s₀ n count s from to more left taken
 
-looped : (kinds low : List ℕ) (limit : ℕ) (s₀ : List ℕ) (n w count : ℕ) (s : List ℕ) (from to more left taken : ℕ) → w ≡ 7 + n → n ≤ 16 → count < 4294967296 → Passing kinds low limit s₀ n count s from to more left taken → Loop kinds low limit s₀ n w count s from to more left taken
-looped kinds low limit s₀ n w count s from to more left taken e f g P =
-    record { wide = e; few = f; within = omega (arith, P .place .size, P .place .room); below = P .below; fewer = P .fewer; word = g; pass = P }
+looped : (kinds low : List ℕ) (limit : ℕ) (s₀ : List ℕ) (n w count : ℕ) (s : List ℕ) (from to more left taken : ℕ) → w ≡ 7 + n → n ≤ 16 → count < 4294967296 → taken + more ≤ count → Passing kinds low limit s₀ n count s from to more left taken → Loop kinds low limit s₀ n w count s from to more left taken
+looped kinds low limit s₀ n w count s from to more left taken e f g k P =
+    record { wide = e; few = f; within = omega (arith, P .place .size, P .place .room); below = P .below; fewer = P .fewer; steps = k; word = g; pass = P }
 
 pub loop-start : (kinds low : List ℕ) (limit : ℕ) (s : List ℕ) (n w count more : ℕ) → w ≡ 7 + n → n ≤ 16 → count * (7 + n) ≤ length s → Held kinds n (pieces (7 + n) count s) → more ≡ count → more < 4294967296 → Loop kinds low limit s n w more s 0 0 more 0 0
-loop-start kinds low limit s n w count more e f h H g k = looped kinds low limit s n w more s 0 0 more 0 0 e f k (rw g (passing-start kinds low limit s n count h H))
+loop-start kinds low limit s n w count more e f h H g k = looped kinds low limit s n w more s 0 0 more 0 0 e f k (omega arith) (rw g (passing-start kinds low limit s n count h H))
 
 module _ (kinds low : List ℕ) (limit : ℕ) (s₀ : List ℕ) (n w count : ℕ) (s : List ℕ) (from to more left taken : ℕ) (L : Loop kinds low limit s₀ n w count s from to more left taken) (some : 0 < more) where
   abbrev D : Passing kinds low limit s₀ n count s from to more left taken
   D = L .pass
 
-  next : (s′ : List ℕ) (from′ to′ more′ left′ taken′ : ℕ) → Passing kinds low limit s₀ n count s′ from′ to′ more′ left′ taken′ → Loop kinds low limit s₀ n w count s′ from′ to′ more′ left′ taken′
-  next s′ from′ to′ more′ left′ taken′ P = looped kinds low limit s₀ n w count s′ from′ to′ more′ left′ taken′ (L .wide) (L .few) (L .word) P
+  next : (s′ : List ℕ) (from′ to′ more′ left′ taken′ : ℕ) → taken′ + more′ ≤ taken + more → Passing kinds low limit s₀ n count s′ from′ to′ more′ left′ taken′ → Loop kinds low limit s₀ n w count s′ from′ to′ more′ left′ taken′
+  next s′ from′ to′ more′ left′ taken′ h P = looped kinds low limit s₀ n w count s′ from′ to′ more′ left′ taken′ (L .wide) (L .few) (L .word) (omega (arith, L .steps)) P
 
   pub row-within : from + (7 + n) ≤ length s
   row-within = here-room kinds low limit s₀ n count s from to more left taken D some
@@ -52,8 +55,8 @@ module _ (kinds low : List ℕ) (limit : ℕ) (s₀ : List ℕ) (n w count : ℕ
   copy-again s₁ e = rw e copy-within
 
   -- what the test of a row asks
-  pub kept-at : to ≡ left * (7 + n)
-  kept-at = D .kept
+  pub kept-below : left * (7 + n) ≤ from
+  kept-below = omega (arith, D .kept, D .below)
 
   pub rest-within : from + (7 + n) + (more - 1) * (7 + n) ≤ length s
   rest-within = omega (arith, next-size s (7 + n) count from more (D .place) some, D .place .room)
@@ -66,50 +69,44 @@ module _ (kinds low : List ℕ) (limit : ℕ) (s₀ : List ℕ) (n w count : ℕ
 
   module _ (r : Step) (e : r ≡ stepFor (kindAt kinds) low (map rowOf (pieces (7 + n) left s)) (rowOf (take (7 + n) (drop from s))) (map rowOf (pieces (7 + n) (more - 1) (drop (from + (7 + n)) s)))) where
     pub loop-keep : (s′ : List ℕ) → s′ ≡ paste s to (drop from s) w → r ≡ Keeps → Loop kinds low limit s₀ n w count s′ (from + w) (to + w) (more - 1) (left + 1) taken
-    loop-keep s′ p k = next s′ (from + w) (to + w) (more - 1) (left + 1) taken (rw (L .wide) (passing-keep kinds low limit s₀ n count s from to more left taken D some s′ (rw (L .wide) at p) r e k))
+    loop-keep s′ p k = next s′ (from + w) (to + w) (more - 1) (left + 1) taken (omega arith) (rw (L .wide) (passing-keep kinds low limit s₀ n count s from to more left taken D some s′ (rw (L .wide) at p) r e k))
 
     module _ (less : taken < limit) where
       pub loop-settle : (s₁ s′ : List ℕ) → s₁ ≡ take from s ++ (rowWords n (settledRow (rowOf (take (7 + n) (drop from s)) .operation)) ++ drop (from + (7 + n)) s) → s′ ≡ paste s₁ to (drop from s₁) w → r ≡ Settles →
           Loop kinds low limit s₀ n w count s′ (from + w) (to + w) (more - 1) (left + 1) (taken + 1)
-      loop-settle s₁ s′ f p k = next s′ (from + w) (to + w) (more - 1) (left + 1) (taken + 1) (rw (L .wide) (passing-settle kinds low limit s₀ n count s from to more left taken D some less r e k s₁ s′ f (rw (L .wide) at p)))
+      loop-settle s₁ s′ f p k = next s′ (from + w) (to + w) (more - 1) (left + 1) (taken + 1) (omega arith) (rw (L .wide) (passing-settle kinds low limit s₀ n count s from to more left taken D some less r e k s₁ s′ f (rw (L .wide) at p)))
 
       pub loop-drop : r ≡ Drops → Loop kinds low limit s₀ n w count s (from + w) to (more - 1) left (taken + 1)
-      loop-drop k = next s (from + w) to (more - 1) left (taken + 1) (rw (L .wide) (passing-drop kinds low limit s₀ n count s from to more left taken D some less r e k))
+      loop-drop k = next s (from + w) to (more - 1) left (taken + 1) (omega arith) (rw (L .wide) (passing-drop kinds low limit s₀ n count s from to more left taken D some less r e k))
 
       pub two-more : r ≡ DropsBoth → 1 ≤ more - 1
       two-more k = both-more kinds low limit s₀ n count s from to more left taken D some less r e k
 
       pub loop-both : r ≡ DropsBoth → Loop kinds low limit s₀ n w count s (from + w + w) to (more - 1 - 1) left (taken + 1)
-      loop-both k = next s (from + w + w) to (more - 1 - 1) left (taken + 1) (rw (L .wide) (passing-both kinds low limit s₀ n count s from to more left taken D some less r e k))
+      loop-both k = next s (from + w + w) to (more - 1 - 1) left (taken + 1) (omega arith) (rw (L .wide) (passing-both kinds low limit s₀ n count s from to more left taken D some less r e k))
 
 -- the end
 module _ (kinds low : List ℕ) (limit : ℕ) (s₀ : List ℕ) (n w count : ℕ) (s : List ℕ) (from to more left taken : ℕ) (L : Loop kinds low limit s₀ n w count s from to more left taken) where
-  pub close-within : from + more * w ≤ length s
-  close-within = rw (L .wide) (omega (arith, L .pass .place .size, L .pass .place .room))
+  -- the rows that were not passed, as a run of words
+  module _ (m : ℕ) (e : m ≡ more) where
+    pub run-within : from + m * w ≤ length s
+    run-within = rw (e, L .wide) (omega (arith, L .pass .place .size, L .pass .place .room))
 
-  module _ (rows : ℕ) (m : count ≡ rows) (stop : (limit ≤ taken) ⊎ (more ≤ 0)) where
+    pub run-fits : length s₀ * 4 < 9223372036854775808 → Fits w64 (m * w)
+    run-fits h = omega (arith, run-within, L .pass .long)
+
+  module _ (rows : ℕ) (c : count ≡ rows) (stop : (limit ≤ taken) ⊎ (more ≤ 0)) where
     abbrev R₀ : List Row
     R₀ = map rowOf (pieces (7 + n) rows s₀)
 
     at-rows : Passing kinds low limit s₀ n rows s from to more left taken
-    at-rows = subst (λ (k : ℕ). Passing kinds low limit s₀ n k s from to more left taken) m (L .pass)
+    at-rows = subst (λ (k : ℕ). Passing kinds low limit s₀ n k s from to more left taken) c (L .pass)
 
-    pub loop-count : (k : ℕ) → k ≡ left + more → k ≡ length (rowsThen kinds low limit R₀)
-    loop-count k e = e ∙ passing-count kinds low limit s₀ n rows s from to more left taken at-rows stop
+    pub loop-count : left + more ≡ length (rowsThen kinds low limit R₀)
+    loop-count = passing-count kinds low limit s₀ n rows s from to more left taken at-rows stop
 
-    pub loop-steps : (k : ℕ) → k ≡ taken → k ≡ stepsThen kinds low limit R₀
-    loop-steps k e = e ∙ passing-steps kinds low limit s₀ n rows s from to more left taken at-rows stop
+    pub loop-steps : taken ≡ stepsThen kinds low limit R₀
+    loop-steps = passing-steps kinds low limit s₀ n rows s from to more left taken at-rows stop
 
-    pub loop-done : (s′ : List ℕ) → s′ ≡ closedUp s from to (more * w) → s′ ≡ padded (rows * (7 + n)) (flat (map (rowWords n) (rowsThen kinds low limit R₀))) ++ drop (rows * (7 + n)) s₀
-    loop-done s′ f = passing-done kinds low limit s₀ n rows s from to more left taken at-rows stop s′ (rw (L .wide) at f)
-
--- the rows that were not passed, as a run of words
-module _ (s : List ℕ) (w from more m : ℕ) (e : m ≡ more) (room : from + more * w ≤ length s) where
-  pub run-within : from + m * w ≤ length s
-  run-within = rw e room
-
-  pub run-fits : length s * 4 < 9223372036854775808 → Fits w64 (m * w)
-  run-fits h = rw e (omega (arith, room))
-
-  pub run-closed : (to : ℕ) (s′ : List ℕ) → s′ ≡ closedUp s from to (m * w) → s′ ≡ closedUp s from to (more * w)
-  run-closed to s′ f = f ∙ rw e refl
+    pub loop-done : (m : ℕ) → m ≡ more → (s′ : List ℕ) → s′ ≡ closedUp s from to (m * w) → s′ ≡ padded (rows * (7 + n)) (flat (map (rowWords n) (rowsThen kinds low limit R₀))) ++ drop (rows * (7 + n)) s₀
+    loop-done m e s′ f = passing-done kinds low limit s₀ n rows s from to more left taken at-rows stop s′ (f ∙ rw (e, L .wide) refl)

@@ -1,191 +1,20 @@
-// Settling in lent words: rows are passed once, and each that is due is settled or dropped by what stands beside it.
+// Settling in lent words: rows are passed once, and each that is due is settled or dropped.
 ghost use mathlib.Core.Path.{_≡_};
-ghost use mathlib.Core.List.{_∷_, _++_, map};
-ghost use Prim.Native.Nat.{_+_, _*_, _≤_, _<_};
+ghost use mathlib.Core.List.{_++_, map};
+ghost use Prim.Native.Nat.{_+_, _*_, _≤_};
 ghost use lib.ListN.{length, take, drop};
-ghost use Rattle.meaning.specs.Order.{entryLimit};
-ghost use Rattle.meaning.specs.Operations.{removesStand};
 ghost use Rattle.meaning.specs.Rows.{settledRow};
-ghost use Rattle.meaning.specs.Settling.{due};
 ghost use Rattle.layout.specs.Words.{flat, padded, pieces};
 ghost use Rattle.layout.specs.Layout.{rowOf, rowWidth, rowWords};
-ghost use Rattle.placing.specs.Placing.{keyWords};
-ghost use Rattle.settling.specs.Stepping.{addDecided, beside, besideLast, besideNext, decided, nobody, removeDecided, stepFor};
-ghost use Rattle.settling.specs.Passing.{closedUp, Held, kindAt, rowsFrom, rowsThen, stepsThen};
+ghost use Rattle.steps.specs.Held.{Held, rowsFrom};
+ghost use Rattle.settling.specs.Passing.{closedUp, rowsThen, stepsThen};
+use steps::Step;
 use tags::RowCount;
-
-// What stands beside a row: whether it is of the same value, whether it adds, and whether it is settled; all false where nothing stands.
-pub struct Neighbour {
-    pub same: bool,
-    pub adds: bool,
-    pub settled: bool,
-}
-
-// What becomes of a row: it is kept as it is, it becomes settled, it is dropped, or it is dropped and a settled remove behind it as well.
-pub enum Step {
-    Keeps,
-    Settles,
-    Drops,
-    DropsBoth,
-}
 
 // What a pass leaves: so many rows, after so many steps.
 pub struct Passed {
     pub left: RowCount,
     pub taken: RowCount,
-}
-
-const ADDS: u32 = 1;
-
-const DISABLE_WINS_FLAG: u32 = 6;
-
-const REMOVE_WINS_SET: u32 = 9;
-
-// Whether a row is due: unsettled, and stable by Low.
-fn is_due(row: &[u32], low: &[u32]) -> bool
-    requires { ⌜ length (now row) ≡ rowWidth (length (now low)) ⌝ }
-    ensures { λ r. ⌜ r ≡ due (now (low .entry)) (rowOf (now (row .entry))) ⌝ }
-{
-    if row[layout::UNSETTLED_AT] == 0 {
-        return false;
-    }
-    tags::at_most(&row[layout::VECTOR_AT..], low)
-}
-
-// Nothing beside a row.
-fn no_neighbour() -> Neighbour
-    ensures { λ r. ⌜ r ≡ nobody ⌝ }
-{
-    Neighbour {
-        same: false,
-        adds: false,
-        settled: false,
-    }
-}
-
-// A row as the neighbour of another.
-fn compared(row: &[u32], other: &[u32]) -> Neighbour
-    requires { ⌜ (keyWords ≤ length (now row)) × (keyWords ≤ length (now other)) ⌝ }
-    ensures { λ r. ⌜ r ≡ beside (rowOf (now (row .entry)) .operation) (rowOf (now (other .entry))) ⌝ }
-{
-    Neighbour {
-        same: tags::same(
-            &row[layout::OBJECT_AT..layout::CODE_AT],
-            &other[layout::OBJECT_AT..layout::CODE_AT],
-        ),
-        adds: other[layout::CODE_AT] == ADDS,
-        settled: other[layout::UNSETTLED_AT] == 0,
-    }
-}
-
-// What stands before the row at a place: the last of the rows kept so far, which end at another place.
-fn before(rows: &[u32], width: usize, at: usize, to: usize, left: RowCount) -> Neighbour
-    requires { ⌜ (keyWords ≤ width) × (to ≡ left .0 * width) × (to ≤ at) × (at + width ≤ length (now rows)) ⌝ }
-    ensures { λ r. ⌜ r ≡ besideLast (rowOf (take width (drop at (now (rows .entry)))) .operation) (map rowOf (pieces width (left .0) (now (rows .entry)))) ⌝ }
-{
-    if to < width {
-        return no_neighbour();
-    }
-    let end = at + width;
-    compared(&rows[at..end], &rows[to - width..to])
-}
-
-// What stands behind the row at a place, where so many rows follow it.
-fn behind(rows: &[u32], width: usize, at: usize, more: RowCount) -> Neighbour
-    requires { ⌜ (keyWords ≤ width) × (at + width + more .0 * width ≤ length (now rows)) × (at + width ≤ length (now rows)) ⌝ }
-    ensures { λ r. ⌜ r ≡ besideNext (rowOf (take width (drop at (now (rows .entry)))) .operation) (map rowOf (pieces width (more .0) (drop (at + width) (now (rows .entry))))) ⌝ }
-{
-    if more.0 == 0 {
-        return no_neighbour();
-    }
-    let next = at + width;
-    let end = next + width;
-    compared(&rows[at..next], &rows[next..end])
-}
-
-// Whether removes stand in objects of this kind.
-fn removes_stand(kind: u32) -> bool
-    ensures { λ r. ⌜ r ≡ removesStand kind ⌝ }
-{
-    if kind == DISABLE_WINS_FLAG {
-        return true;
-    }
-    kind == REMOVE_WINS_SET
-}
-
-// What becomes of a remove where removes stand: it is settled if adds are all that stands beside it.
-fn remove_step(before: Neighbour, behind: Neighbour) -> Step
-    ensures { λ r. ⌜ r ≡ removeDecided before behind ⌝ }
-{
-    if behind.same {
-        return Step::Drops;
-    }
-    if before.same {
-        if before.adds {
-            return Step::Settles;
-        }
-    }
-    Step::Drops
-}
-
-// What becomes of any other row: it is settled if nothing stands beside it, and where removes stand the last add takes a settled remove along.
-fn add_step(stands: bool, before: Neighbour, behind: Neighbour) -> Step
-    ensures { λ r. ⌜ r ≡ addDecided stands before behind ⌝ }
-{
-    if before.same {
-        return Step::Drops;
-    }
-    if behind.same {
-        if stands {
-            if behind.adds {
-                return Step::Drops;
-            }
-            if behind.settled {
-                return Step::DropsBoth;
-            }
-        }
-        return Step::Drops;
-    }
-    Step::Settles
-}
-
-// What becomes of a row of this kind and code.
-fn decide(kind: u32, code: u32, before: Neighbour, behind: Neighbour) -> Step
-    ensures { λ r. ⌜ r ≡ decided kind code before behind ⌝ }
-{
-    if removes_stand(kind) {
-        if code == ADDS {
-            return add_step(true, before, behind);
-        }
-        return remove_step(before, behind);
-    }
-    add_step(false, before, behind)
-}
-
-// What becomes of the row at a place: it is kept unless it is due. The rows kept so far end at another place, and so many follow it.
-fn step_for(
-    rows: &[u32],
-    size: usize,
-    at: usize,
-    more: RowCount,
-    to: usize,
-    left: RowCount,
-    kinds: &[u32],
-    low: &[u32],
-) -> Step
-    requires { ⌜ (length (now low) ≡ size) × (size ≤ 16) × (to ≡ left .0 * rowWidth size) × (to ≤ at) × (at + rowWidth size ≤ length (now rows)) × (at + rowWidth size + more .0 * rowWidth size ≤ length (now rows)) ⌝ }
-    requires { ⌜ Held (now kinds) size (pieces (rowWidth size) (left .0) (now rows) ++ (take (rowWidth size) (drop at (now rows)) ∷ pieces (rowWidth size) (more .0) (drop (at + rowWidth size) (now rows)))) ⌝ }
-    ensures { λ r. ⌜ r ≡ stepFor (kindAt (now (kinds .entry))) (now (low .entry)) (rowsFrom size (left .0) (now (rows .entry))) (rowOf (take (rowWidth size) (drop at (now (rows .entry))))) (rowsFrom size (more .0) (drop (at + rowWidth size) (now (rows .entry)))) ⌝ }
-{
-    let width = layout::VECTOR_AT + size;
-    let end = at + width;
-    if is_due(&rows[at..end], low) {
-        let kind = rowrules::kind_of(kinds, rows[at]);
-        let above = before(rows, width, at, to, left);
-        let below = behind(rows, width, at, more);
-        return decide(kind, rows[at + layout::CODE_AT], above, below);
-    }
-    Step::Keeps
 }
 
 // Settles a row where it stands: its tag is wiped.
@@ -204,26 +33,6 @@ fn close_up(rows: &mut [u32], from: usize, to: usize, run: usize)
 {
     moves::copy_down(rows, run, from, to);
     moves::clear(rows, to + run, from + run);
-}
-
-// Ends a pass: the rows that were not passed move down to those that were kept, with zeros behind them.
-fn finish(
-    rows: &mut [u32],
-    width: usize,
-    from: usize,
-    to: usize,
-    more: RowCount,
-    left: RowCount,
-    taken: RowCount,
-) -> Passed
-    requires { ⌜ (to ≤ from) × (from + more .0 * width ≤ length (now rows)) × (left .0 + more .0 < entryLimit) ⌝ }
-    ensures { λ r. ⌜ (r .left .0 ≡ left .0 + more .0) × (r .taken .0 ≡ taken .0) × (now (rows .exit) ≡ closedUp (now (rows .entry)) from to (more .0 * width)) ⌝ }
-{
-    close_up(rows, from, to, tags::wide(more.0) * width);
-    Passed {
-        left: RowCount(left.0 + more.0),
-        taken,
-    }
 }
 
 // Takes settling steps until the limit or until no row is due: one pass with a reading and a writing place.
@@ -246,60 +55,35 @@ pub fn pass_rows(
     let mut taken: u32 = 0;
     while 0 < more {
         if limit.0 <= taken {
-            return finish(
-                rows,
-                width,
-                from,
-                to,
-                RowCount(more),
-                RowCount(left),
-                RowCount(taken),
-            );
+            break;
         }
+        let at = from;
+        from += width;
         more -= 1;
-        let end = from + width;
-        match step_for(
-            rows,
-            size,
-            from,
-            RowCount(more),
-            to,
-            RowCount(left),
-            kinds,
-            low,
-        ) {
+        match steps::step_for(rows, size, at, RowCount(left), RowCount(more), kinds, low) {
             Step::Keeps => {
-                moves::copy_down(rows, width, from, to);
+                moves::copy_down(rows, width, at, to);
                 to += width;
                 left += 1;
-                from = end;
             }
             Step::Settles => {
-                settle_row(rows, from, size);
-                moves::copy_down(rows, width, from, to);
+                settle_row(rows, at, size);
+                moves::copy_down(rows, width, at, to);
                 to += width;
                 left += 1;
                 taken += 1;
-                from = end;
             }
-            Step::Drops => {
-                taken += 1;
-                from = end;
-            }
+            Step::Drops => taken += 1,
             Step::DropsBoth => {
                 taken += 1;
                 more -= 1;
-                from = end + width;
+                from += width;
             }
         }
     }
-    finish(
-        rows,
-        width,
-        from,
-        to,
-        RowCount(more),
-        RowCount(left),
-        RowCount(taken),
-    )
+    close_up(rows, from, to, tags::wide(more) * width);
+    Passed {
+        left: RowCount(left + more),
+        taken: RowCount(taken),
+    }
 }

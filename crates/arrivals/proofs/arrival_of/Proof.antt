@@ -4,7 +4,7 @@ use Rattle.arrivals.proofs.arrival_of.Statement.{statement}
 use Rattle.arrivals.proofs.arrival_of.Tie as tie
 use Rattle.arrivals.proofs.arrival_of.Reads as reads
 use Rattle.arrivals.proofs.arrival_of.Lts as lts
-use Rattle.allowing.proofs.kind_of.Reads as kind-of-reads
+use Rattle.objects.proofs.kind_of.Reads as kind-of-reads
 use Rattle.tags.proofs.wide.Reads as wide-reads
 
 shared-slice-read-wide : tie.Need-shared-slice-read-wide

@@ -4,7 +4,7 @@ use Rattle.arrivals.proofs.arrive_total.Statement.{statement}
 use Rattle.arrivals.proofs.arrive_total.Tie as tie
 use Rattle.arrivals.proofs.arrive_total.Reads as reads
 use Rattle.arrivals.proofs.arrive_total.Lts as lts
-use Rattle.rows.proofs.is_counter.Reads as is-counter-reads
+use Rattle.objects.proofs.is_counter.Reads as is-counter-reads
 use Rattle.table.proofs.change_total.Reads as change-total-reads
 use Rattle.tags.proofs.wide.Reads as wide-reads
 

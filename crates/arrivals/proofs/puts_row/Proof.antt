@@ -6,7 +6,7 @@ use Rattle.arrivals.proofs.puts_row.Reads as reads
 use Rattle.arrivals.proofs.puts_row.Lts as lts
 use Rattle.arrivals.proofs.gets_row.Reads as gets-row-reads
 use Rattle.arrivals.proofs.has_value.Reads as has-value-reads
-use Rattle.rows.proofs.is_counter.Reads as is-counter-reads
+use Rattle.objects.proofs.is_counter.Reads as is-counter-reads
 use Rattle.rows.proofs.is_kept.Reads as is-kept-reads
 
 is-counter-requires : tie.Need-is-counter-requires

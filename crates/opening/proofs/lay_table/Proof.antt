@@ -1,4 +1,4 @@
-use Rattle.opening.proofs.Laying.{square-fits, front-fits, area-fits, needed-fits, kinds-fit, needed-room, objects-fit, table-laid}
+use Rattle.opening.proofs.Laying.{few, small, kinds-fit, needed-room, objects-fit, table-laid}
 use native.Mathlib.Omega.{arith}
 use borrow.Author.Needs.{needs}
 use Rattle.opening.proofs.lay_table.Statement.{statement}
@@ -6,31 +6,14 @@ use Rattle.opening.proofs.lay_table.Tie as tie
 use Rattle.opening.proofs.lay_table.Reads as reads
 use Rattle.opening.proofs.lay_table.Lts as lts
 use Rattle.opening.proofs.lay.Reads as lay-reads
+use Rattle.ranges.proofs.space_for.Reads as space-for-reads
 use Rattle.tags.proofs.wide.Reads as wide-reads
 
 wide-requires : tie.Need-wide-requires
 wide-requires c κs = search needs
 
-add-needed : tie.Need-add-needed
-add-needed c = search needs
-
-mul-needed : tie.Need-mul-needed
-mul-needed c = search square-fits
-
-add-needed-2 : tie.Need-add-needed-2
-add-needed-2 c = search front-fits
-
-wide-requires-2 : tie.Need-wide-requires-2
-wide-requires-2 c κs = search needs
-
-add-needed-3 : tie.Need-add-needed-3
-add-needed-3 c = search needs
-
-mul-needed-2 : tie.Need-mul-needed-2
-mul-needed-2 c = search area-fits
-
-add-needed-4 : tie.Need-add-needed-4
-add-needed-4 c = search needed-fits
+space-for-requires : tie.Need-space-for-requires
+space-for-requires c κs = (search few, search small)
 
 cast-objects : tie.Need-cast-objects
 cast-objects c = search objects-fit
@@ -52,13 +35,7 @@ lay-table-spec =
     tie.close
     (tie.spec
     wide-requires
-    add-needed
-    mul-needed
-    add-needed-2
-    wide-requires-2
-    add-needed-3
-    mul-needed-2
-    add-needed-4
+    space-for-requires
     cast-objects
     slice-aggregate-lay
     lay-requires

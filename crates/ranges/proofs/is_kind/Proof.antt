@@ -1,13 +1,10 @@
--- `ranges::is_kind` meets its contract: below the least, or compared with the greatest.
-use Rattle.ranges.proofs.Heading.{range-below, range-from}
+-- `ranges::is_kind` meets its contract: the kind is the same number as a word.
+use borrow.Author.Needs.{needs}
 use Rattle.ranges.proofs.is_kind.Statement.{statement}
 use Rattle.ranges.proofs.is_kind.Tie as tie
 
 returns : tie.Need-returns
-returns c = search range-below
-
-returns-2 : tie.Need-returns-2
-returns-2 c = search range-from
+returns c = search needs
 
 pub is-kind-spec : {M : Type 1} → statement M
-is-kind-spec = tie.close (tie.spec returns returns-2)
+is-kind-spec = tie.close (tie.spec (λ c κs. search needs) returns)

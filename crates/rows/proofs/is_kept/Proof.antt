@@ -1,4 +1,4 @@
-use Rattle.rows.proofs.Testing.{either-first, either-second}
+use Rattle.objects.proofs.KindLaws.{either-first, either-second}
 use native.Mathlib.Omega.{arith}
 use borrow.Author.Needs.{needs}
 use Rattle.rows.proofs.is_kept.Statement.{statement}

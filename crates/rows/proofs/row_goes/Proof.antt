@@ -5,7 +5,7 @@ use Rattle.rows.proofs.row_goes.Statement.{statement}
 use Rattle.rows.proofs.row_goes.Tie as tie
 use Rattle.rows.proofs.row_goes.Reads as reads
 use Rattle.rows.proofs.row_goes.Lts as lts
-use Rattle.rows.proofs.is_counter.Reads as is-counter-reads
+use Rattle.objects.proofs.is_counter.Reads as is-counter-reads
 use Rattle.rows.proofs.is_kept.Reads as is-kept-reads
 use Rattle.rows.proofs.same_value.Reads as same-value-reads
 use Rattle.rows.proofs.takes.Reads as takes-reads

@@ -1,4 +1,4 @@
-use Rattle.settling.proofs.Passing.{closed, closed-room}
+use Rattle.settling.proofs.Passing.{closed}
 use native.Mathlib.Omega.{arith}
 use borrow.Author.Needs.{needs}
 use Rattle.settling.proofs.close_up.Statement.{statement}

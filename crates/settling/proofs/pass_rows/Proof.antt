@@ -1,5 +1,5 @@
-use mathlib.Core.Logic.{inl, inr}
-use Rattle.settling.proofs.Looping.{Loop, loop-start, row-within, copy-within, copy-again, kept-at, rest-within, rows-held, here-spelt, loop-keep, loop-settle, loop-drop, two-more, loop-both, close-within, loop-count, loop-steps, loop-done}
+use Rattle.settling.proofs.Looping.{Loop, loop-start, row-within, copy-within, copy-again, kept-below, rest-within, rows-held, here-spelt, loop-keep, loop-settle, loop-drop, two-more, loop-both, run-within, run-fits, loop-count, loop-steps, loop-done}
+use mathlib.Core.Logic.{inl, inr, ⊎-elim}
 use native.Mathlib.Omega.{arith}
 use borrow.Author.Needs.{needs}
 use Rattle.settling.proofs.pass_rows.Statement.{statement}
@@ -7,9 +7,10 @@ use Rattle.settling.proofs.pass_rows.Tie as tie
 use Rattle.settling.proofs.pass_rows.Reads as reads
 use Rattle.settling.proofs.pass_rows.Lts as lts
 use Rattle.moves.proofs.copy_down.Reads as copy-down-reads
-use Rattle.settling.proofs.finish.Reads as finish-reads
+use Rattle.settling.proofs.close_up.Reads as close-up-reads
 use Rattle.settling.proofs.settle_row.Reads as settle-row-reads
-use Rattle.settling.proofs.step_for.Reads as step-for-reads
+use Rattle.steps.proofs.step_for.Reads as step-for-reads
+use Rattle.tags.proofs.wide.Reads as wide-reads
 
 abbrev Inv-loop : tie.InvT-loop
 Inv-loop rows₀ size kinds low limit width from₀ to₀ more₀ left₀ taken₀ rows from to more left taken =
@@ -24,23 +25,14 @@ add-width c = search needs
 loop-holds : tie.Need-loop-holds Inv-loop μ-loop
 loop-holds c = search loop-start
 
-finish-requires : tie.Need-finish-requires Inv-loop μ-loop
-finish-requires c κs = (search needs, search close-within, search needs)
-
-same-length : tie.Need-same-length Inv-loop μ-loop
-same-length c = search needs
-
-returns : tie.Need-returns Inv-loop μ-loop
-returns c = (search (loop-count, inl), search (loop-steps, inl), search (loop-done, inl))
+add-from : tie.Need-add-from Inv-loop μ-loop
+add-from c = search needs
 
 sub-more : tie.Need-sub-more Inv-loop μ-loop
 sub-more c = search needs
 
-add-end : tie.Need-add-end Inv-loop μ-loop
-add-end c = search needs
-
 step-for-requires : tie.Need-step-for-requires Inv-loop μ-loop
-step-for-requires c κs = ((search needs, search needs, search kept-at, search needs, search row-within, search rest-within), search rows-held)
+step-for-requires c κs = ((search needs, search needs, search kept-below, search row-within, search rest-within), search rows-held)
 
 enum-told : tie.Need-enum-told Inv-loop μ-loop
 enum-told c = search needs
@@ -105,8 +97,8 @@ add-taken-3 c = search needs
 sub-more-2 : tie.Need-sub-more-2 Inv-loop μ-loop
 sub-more-2 c = search two-more
 
-add-from : tie.Need-add-from Inv-loop μ-loop
-add-from c = search needs
+add-from-2 : tie.Need-add-from-2 Inv-loop μ-loop
+add-from-2 c = search needs
 
 loop-less-4 : tie.Need-loop-less-4 Inv-loop μ-loop
 loop-less-4 c = search needs
@@ -114,14 +106,25 @@ loop-less-4 c = search needs
 loop-again-4 : tie.Need-loop-again-4 Inv-loop μ-loop
 loop-again-4 c = loop-both _ _ _ _ _ _ _ _ _ _ _ _ _ (c .before .before .before .before .before .before .before .loop .inv) (search needs) _ (c .before .before .step-for .ensures) (search needs) (c .enum-told4 .given .1)
 
-finish-requires-2 : tie.Need-finish-requires-2 Inv-loop μ-loop
-finish-requires-2 c κs = (search needs, search close-within, search needs)
+wide-requires : tie.Need-wide-requires Inv-loop μ-loop
+wide-requires c κs = search needs
 
-same-length-2 : tie.Need-same-length-2 Inv-loop μ-loop
-same-length-2 c = search needs
+mul-close-up : tie.Need-mul-close-up Inv-loop μ-loop
+mul-close-up c = search run-fits
 
-returns-2 : tie.Need-returns-2 Inv-loop μ-loop
-returns-2 c = (search (loop-count, inr), search (loop-steps, inr), search (loop-done, inr))
+close-up-requires : tie.Need-close-up-requires Inv-loop μ-loop
+close-up-requires c κs = (search needs, search run-within)
+
+add-t33 : tie.Need-add-t33 Inv-loop μ-loop
+add-t33 c = search needs
+
+same-length : tie.Need-same-length Inv-loop μ-loop
+same-length c = search needs
+
+returns : tie.Need-returns Inv-loop μ-loop
+returns c =
+    let stop = ⊎-elim (λ w. inr (w .left)) (λ w. inl (w .2 .taken)) (c .before .before .before .before .before .loop-test .came) in
+    (search (loop-count, stop), search (loop-steps, stop), search (loop-done, stop))
 
 pub pass-rows-spec : {M : Type 1} → statement M
 pass-rows-spec =
@@ -131,11 +134,8 @@ pass-rows-spec =
     μ-loop
     add-width
     loop-holds
-    finish-requires
-    same-length
-    returns
+    add-from
     sub-more
-    add-end
     step-for-requires
     enum-told
     copy-down-requires
@@ -158,9 +158,12 @@ pass-rows-spec =
     enum-told-4
     add-taken-3
     sub-more-2
-    add-from
+    add-from-2
     loop-less-4
     loop-again-4
-    finish-requires-2
-    same-length-2
-    returns-2)
+    wide-requires
+    mul-close-up
+    close-up-requires
+    add-t33
+    same-length
+    returns)

@@ -1,0 +1,4 @@
+pub mod Deciding
+pub mod Testing
+pub mod Ruled
+pub mod OneStep
