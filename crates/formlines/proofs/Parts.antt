@@ -1,16 +1,16 @@
 -- The parts of a table, read from its words, make the lines of its form.
 use mathlib.Core.Path.{_≡_, refl, sym, ap, _∙_}
-use mathlib.Core.Bool.{Bool, true, false, _||_, cond}
+use mathlib.Core.Bool.{true, _||_, cond}
 use mathlib.Core.List.{List, [], _∷_, map, List·Memᴰ, List·Memᴰ·head, List·Memᴰ·tail}
 use Prim.Native.Nat.{ℕ, zero, suc, _+_, _-_, _*_, _≤_, _<_}
-use native.Mathlib.Nat.{suc-mul, zero-mul, mul-le-mul, mul-le-mul-right}
+use native.Mathlib.Nat.{suc-mul, zero-mul, mul-le-mul-right}
 use native.Mathlib.Omega.{arith}
 use borrow.Author.Tests.{eqb-true, ltb-true, ne-eqb}
 use mir.Val.{Fits}
 use mir.Syntax.{w64}
 use lib.Dec.{eqb}
-use lib.IntN.{ℤ, pos}
-use lib.ListN.{length, getD, take, drop, length-map, length-drop}
+use lib.IntN.{pos}
+use lib.ListN.{length, getD, take, drop, length-map}
 use lib.Seq.{drop-drop, getD-take, getD-drop, take-nil}
 use Rattle.meaning.specs.Operations.{isCounter, isFlag, clears, valueAllowed}
 use Rattle.meaning.specs.Rows.{Row}
