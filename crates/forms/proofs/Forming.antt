@@ -184,22 +184,22 @@ module _ (s : List ℕ) (K : Checked s) (out : List ℕ) (k : ℕ) (n0 : k ≡ 0
   own-below : tableOf s .header .own < length (tableOf s .last)
   own-below = rw (own-is, lasts-many, es) (K .own)
 
-  pub station-below : k ≤ size → (station : ℕ) → station ≡ otherAt (ownIn s) (k - 2) → station < sizeIn s
+  pub station-below : k < 1 + size → (station : ℕ) → station ≡ otherAt (ownIn s) (k - 2) → station < sizeIn s
   station-below h station e = rw e (other-below (ownIn s) (k - 2) (sizeIn s) (K .own) (omega (arith, two)))
 
   in-form : lineAt (savedForm (tableOf s)) k out ≡ lineAt (lastLines (tableOf s) ++ (totalLines (tableOf s) ++ rowLines (tableOf s))) (k - 2) out
   unfolding savedForm
   in-form = third-line (openingLine (tableOf s .header)) (clockLine (tableOf s .clock)) (lastLines (tableOf s) ++ (totalLines (tableOf s) ++ rowLines (tableOf s))) k out two
 
-  pub last-told : k ≤ size → (station : ℕ) → station ≡ otherAt (ownIn s) (k - 2) → (w : Written) (x : List ℕ) → (w, x) ≡ lineWritten out (lastLine station (getD (tableOf s .last) station [])) → (t : Formed) → t ≡ formedOf w
+  pub last-told : k < 1 + size → (station : ℕ) → station ≡ otherAt (ownIn s) (k - 2) → (w : Written) (x : List ℕ) → (w, x) ≡ lineWritten out (lastLine station (getD (tableOf s .last) station [])) → (t : Formed) → t ≡ formedOf w
       → (t, x) ≡ lineAt (savedForm (tableOf s)) k out
   unfolding lastLines
   last-told h station e w x f t g =
       into-told out _ w x t f g ∙ rw (e, sym own-is)
       (sym (in-form ∙ last-there lastLine (totalLines (tableOf s) ++ rowLines (tableOf s)) out (tableOf s .header .own) (k - 2) (tableOf s .last) own-below (rw lasts-many (omega (arith, two)))))
 
-  pub lasts-behind : size < k → (t : Formed) (x : List ℕ) → (t, x) ≡ lineAt (totalLines (tableOf s) ++ rowLines (tableOf s)) (k - size - 1) out → (t, x) ≡ lineAt (savedForm (tableOf s)) k out
+  pub lasts-behind : 1 + size ≤ k → (t : Formed) (x : List ℕ) → (t, x) ≡ lineAt (totalLines (tableOf s) ++ rowLines (tableOf s)) (k - (1 + size)) out → (t, x) ≡ lineAt (savedForm (tableOf s)) k out
   unfolding lastLines
   lasts-behind h t x e =
-      let d : suc (k - 2) - size ≡ k - size - 1 = omega (arith, two) in
+      let d : suc (k - 2) - size ≡ k - (1 + size) = omega (arith, two) in
       e ∙ sym (in-form ∙ last-behind lastLine (totalLines (tableOf s) ++ rowLines (tableOf s)) out (tableOf s .header .own) (k - 2) (tableOf s .last) own-below (rw lasts-many (omega (arith, two))) ∙ rw (lasts-many, d) refl)

@@ -114,10 +114,11 @@ pub fn write_line(space: &[u32], k: usize, out: &mut [u8]) -> Formed
     if k == CLOCK_PLACE {
         return told(formlines::write_clock(space, out));
     }
-    let size = tags::wide(space[SIZE_AT]);
-    if k <= size {
+    // The own station has no line: one line less than there are stations follows that of the clock.
+    let lasts_end = CLOCK_PLACE + tags::wide(space[SIZE_AT]);
+    if k < lasts_end {
         let station = other(Station(space[OWN_AT]), (k - LASTS_PLACE) as u32);
         return told(formlines::write_last(space, station, out));
     }
-    write_behind_lasts(space, k - size - 1, out)
+    write_behind_lasts(space, k - lasts_end, out)
 }

@@ -44,8 +44,11 @@ shared-slice-read-wide c = search needs
 wide-requires : tie.Need-wide-requires
 wide-requires c κs = search needs
 
-shared-slice-read-t16 : tie.Need-shared-slice-read-t16
-shared-slice-read-t16 c = search needs
+add-lasts-end : tie.Need-add-lasts-end
+add-lasts-end c = search needs
+
+shared-slice-read-t17 : tie.Need-shared-slice-read-t17
+shared-slice-read-t17 c = search needs
 
 sub-other : tie.Need-sub-other
 sub-other c = search needs
@@ -67,12 +70,6 @@ same-length-3 c = search needs
 
 returns-3 : tie.Need-returns-3
 returns-3 c = search last-told
-
-sub-write-behind-lasts : tie.Need-sub-write-behind-lasts
-sub-write-behind-lasts c = search needs
-
-sub-write-behind-lasts-2 : tie.Need-sub-write-behind-lasts-2
-sub-write-behind-lasts-2 c = search needs
 
 write-behind-lasts-requires : tie.Need-write-behind-lasts-requires
 write-behind-lasts-requires c κs = search needs
@@ -97,7 +94,8 @@ write-line-spec =
     returns-2
     shared-slice-read-wide
     wide-requires
-    shared-slice-read-t16
+    add-lasts-end
+    shared-slice-read-t17
     sub-other
     cast-other
     other-requires
@@ -105,8 +103,6 @@ write-line-spec =
     told-requires-3
     same-length-3
     returns-3
-    sub-write-behind-lasts
-    sub-write-behind-lasts-2
     write-behind-lasts-requires
     same-length-4
     returns-4)
