@@ -30,7 +30,7 @@ pub enum Formed {
 }
 
 // The counter behind so many others: its object, or what is left of the number when all counters are passed.
-pub enum Sought {
+enum Sought {
     At(usize),
     Behind(usize),
 }

@@ -69,7 +69,7 @@ same-length-3 : tie.Need-same-length-3
 same-length-3 c = search needs
 
 returns-3 : tie.Need-returns-3
-returns-3 c = search last-told
+returns-3 c = last-told _ (c .before .before .before .before .before .before .before .before .before .before .before .before .before .before .pre) _ _ (c .before .before .before .before .before .before .before .before .before .before .before .if1 .left) (c .before .before .before .before .before .before .before .before .before .before .if2 .left) _ (c .before .before .before .before .before .before .before .before .wide .ensures .0) (search needs) _ (c .before .before .before .before .before .other .ensures) _ _ (c .before .before .before .write-last .ensures) _ (c .told3 .ensures)
 
 write-behind-lasts-requires : tie.Need-write-behind-lasts-requires
 write-behind-lasts-requires c κs = search needs
