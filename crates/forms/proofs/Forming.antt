@@ -20,7 +20,8 @@ use Rattle.writing.specs.Writing.{lineWritten}
 use Rattle.writing.specs.declared.Written.{Written}
 use Rattle.writing.specs.declared.Written.the-variants as written
 use Rattle.formlines.specs.FormLines.{openingLine, clockLine, lastLine, totalLine, rowLine, rowLineAt, closingLine}
-use Rattle.forms.specs.Forms.{counterAt, formedOf, lastLines, lineAt, lineInto, otherAt, rowLines, savedForm, totalLines}
+use Rattle.forms.specs.Forms.{formedOf, lastLines, lineAt, lineInto, rowLines, savedForm, totalLines}
+use Rattle.forms.specs.Seeking.{counterAt, otherAt}
 use Rattle.forms.specs.declared.Formed.{Formed}
 use Rattle.forms.specs.declared.Formed.the-variants as formed
 use Rattle.forms.specs.declared.Sought.{Sought}

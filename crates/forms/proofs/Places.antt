@@ -11,7 +11,8 @@ use lib.ListN.{length, getD, drop}
 use lib.Seq.{getD-drop, drop-drop}
 use Rattle.meaning.specs.Operations.{isCounter}
 use Rattle.meaning.proofs.Tests.{cases}
-use Rattle.forms.specs.Forms.{counterAt, lineAt, lineInto, linesOf, otherAt}
+use Rattle.forms.specs.Forms.{lineAt, lineInto, linesOf}
+use Rattle.forms.specs.Seeking.{counterAt, otherAt}
 use Rattle.forms.specs.declared.Formed.{Formed}
 use Rattle.forms.specs.declared.Sought.{Sought}
 use Rattle.forms.specs.declared.Sought.the-variants as sought

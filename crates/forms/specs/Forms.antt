@@ -1,8 +1,8 @@
 -- "Saved form": its lines in order, and one of them written into a lent space.
 use mathlib.Core.Bool.{Bool, not, cond}
 use mathlib.Core.List.{List, [], _∷_, _++_, map}
-use Prim.Native.Nat.{ℕ, zero, suc, _-_}
-use lib.Dec.{eqb, ltb}
+use Prim.Native.Nat.{ℕ, zero, suc}
+use lib.Dec.{eqb}
 use lib.ListN.{length}
 use Rattle.meaning.specs.Operations.{isCounter}
 use Rattle.meaning.specs.Table.{Table, kindIn}
@@ -12,8 +12,6 @@ use Rattle.writing.specs.declared.Written.the-variants as written
 use Rattle.formlines.specs.FormLines.{openingLine, clockLine, lastLine, totalLine, rowLine, closingLine}
 use Rattle.forms.specs.declared.Formed.{Formed}
 use Rattle.forms.specs.declared.Formed.the-variants as formed
-use Rattle.forms.specs.declared.Sought.{Sought}
-use Rattle.forms.specs.declared.Sought.the-variants as sought
 
 -- "ascending": a line for each element at a place that the test takes; the first element's place is given
 abbrev pub linesOf : {A : Type 0} → (ℕ → Bool) → (ℕ → A → List ℕ) → ℕ → List A → List (List ℕ)
@@ -51,16 +49,3 @@ unfoldable pub lineAt : List (List ℕ) → ℕ → List ℕ → Formed × List 
 lineAt [] place out = (formed.End, out)
 lineAt (line ∷ rest) zero out = lineInto out line
 lineAt (line ∷ rest) (suc place) out = lineAt rest place out
-
--- the other station behind so many others: the own one is passed over
-unfoldable pub otherAt : ℕ → ℕ → ℕ
-otherAt own ahead = cond (ltb ahead own) ahead (suc ahead)
-
--- the object of the counter behind so many others, the first kind being that of the object given; where there are not so many counters, how
--- many are left of the number when all are passed
-unfoldable pub counterAt : List ℕ → ℕ → ℕ → Sought
-counterAt [] object ahead = sought.Behind ahead
-counterAt (kind ∷ kinds) object ahead =
-    cond (isCounter kind)
-    (cond (eqb ahead 0) (sought.At object) (counterAt kinds (suc object) (ahead - 1)))
-    (counterAt kinds (suc object) ahead)
