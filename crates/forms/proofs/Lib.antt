@@ -1,0 +1,5 @@
+pub mod Places
+pub mod Forming
+pub mod ReadsBack
+pub mod Agreeing
+pub mod Lines
