@@ -13,9 +13,6 @@ use Rattle.checked.specs.Checked.{Checked}
 use Rattle.checked.proofs.Checking.{checked}
 use Rattle.hexes.specs.Choice.{pick}
 use Rattle.hexes.specs.Hex.{hexLine}
-use Rattle.hexes.specs.Decoding.{lineType}
-use Rattle.hexes.specs.declared.LineType.{LineType}
-use Rattle.hexes.specs.declared.LineType.the-variants.{Is, Unknown}
 use Rattle.writing.specs.Writing.{lineWritten}
 use Rattle.writing.specs.declared.Written.{Written}
 use Rattle.writing.specs.declared.Written.the-variants as written
@@ -28,17 +25,9 @@ use Rattle.spoken.specs.Spoken.{openedBy}
 use Rattle.answering.specs.Answering.{answerOn, openedBytes, toldAfter}
 use Rattle.answering.proofs.Choosing.{told}
 use Rattle.answering.proofs.Short.{answer-short, opened-short, refusal-short}
+use Rattle.heard.specs.Hearing.{typeOf}
 use Rattle.calls.specs.declared.Answered.the-variants as answered
-use Rattle.calls.specs.Answers.{answeredBy, answerOf, byteOfType, printedIn, typeOf}
-
--- the type of a line
-pub type-known : (line : List ℕ) (t : LineType) → t ≡ lineType line → (byte : ℕ) → t ≡ Is byte → byte ≡ typeOf line
-unfolding typeOf
-type-known line t e byte h = ap byteOfType (sym h ∙ e)
-
-pub type-unknown : (line : List ℕ) (t : LineType) → t ≡ lineType line → t ≡ Unknown → 0 ≡ typeOf line
-unfolding typeOf
-type-unknown line t e h = ap byteOfType (sym h ∙ e)
+use Rattle.calls.specs.Answers.{answeredBy, answerOf, printedIn}
 
 -- on a table, and before an accepted opening
 module _ (line words out : List ℕ) (kind : ℕ) (k : kind ≡ typeOf line) (b : Bool) (e : b ≡ holdsTable words) where

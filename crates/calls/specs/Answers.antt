@@ -6,23 +6,13 @@ use lib.ListN.{drop, length}
 use Rattle.layout.specs.Layout.{holdsTable}
 use Rattle.hexes.specs.Choice.{pick}
 use Rattle.hexes.specs.Hex.{hexLine}
-use Rattle.hexes.specs.Decoding.{lineType}
-use Rattle.hexes.specs.declared.LineType.{LineType}
-use Rattle.hexes.specs.declared.LineType.the-variants.{Is, Unknown}
 use Rattle.lines.specs.Types.{opening}
+use Rattle.heard.specs.Hearing.{typeOf}
 use Rattle.telling.specs.Telling.{refusalBytes}
 use Rattle.spoken.specs.Spoken.{openedBy}
 use Rattle.answering.specs.Answering.{answerOn, changing, isType, openedBytes}
 use Rattle.calls.specs.declared.Answered.{Answered}
 use Rattle.calls.specs.declared.Answered.the-variants as answered
-
--- A line's type is its first two characters if they are lower-case hexadecimal digits; else it has none, and 0 is no type.
-abbrev pub byteOfType : LineType → ℕ
-byteOfType (Is byte) = byte
-byteOfType Unknown = 0
-
-unfoldable pub typeOf : List ℕ → ℕ
-typeOf line = byteOfType (lineType line)
 
 -- "A line before an accepted opening gets `ff0e`, unless it is itself of type `10`": the bytes of the answer, and the space afterwards.
 unfoldable pub answerOf : List ℕ → List ℕ → List ℕ × List ℕ

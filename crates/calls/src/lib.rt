@@ -5,9 +5,8 @@ ghost use Prim.Native.Nat.{_≤_};
 ghost use lib.ListN.{length};
 ghost use Rattle.answering.specs.Answering.{frameRoom, toldAfter};
 ghost use Rattle.calls.specs.Calls.{fallen, issuedBy, receivedBy, repliedBy, settledBy};
-ghost use Rattle.calls.specs.Answers.{answeredBy, answerOf, longestAnswer, typeOf};
+ghost use Rattle.calls.specs.Answers.{answeredBy, answerOf, longestAnswer};
 use asks::Reply;
-use hexes::LineType;
 use spoken::Issued;
 use spoken::Opened;
 use spoken::Received;
@@ -74,23 +73,10 @@ pub fn longest_answer() -> usize
     LONGEST_ANSWER
 }
 
-// A line that is not of a type: no type's byte.
-const NO_TYPE: u8 = 0;
-
 // What the station program answers: a line of so many characters, or nothing further.
 pub enum Answered {
     Line(usize),
     End,
-}
-
-// The type of a line, malformed ones included.
-fn type_of(line: &[u8]) -> u8
-    ensures { λ r. ⌜ r ≡ typeOf (now (line .entry)) ⌝ }
-{
-    match hexes::line_type(line) {
-        LineType::Is(byte) => byte,
-        LineType::Unknown => NO_TYPE,
-    }
 }
 
 // The one line that a line is answered with; before an accepted opening, 14 unless it is itself an opening.
@@ -98,7 +84,7 @@ fn answer_first(space: &mut [u32], line: &[u8], out: &mut [u8]) -> Written
     requires { ⌜ frameRoom ≤ length (now out) ⌝ }
     ensures { λ w. ⌜ (w, (now (space .exit), now (out .exit))) ≡ toldAfter (now (out .entry)) (answerOf (now (line .entry)) (now (space .entry))) ⌝ }
 {
-    let kind = type_of(line);
+    let kind = heard::type_of(line);
     if rules::is_table(space) {
         return answering::answer_line(space, line, kind, out);
     }
