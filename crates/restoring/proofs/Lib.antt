@@ -1,0 +1,5 @@
+pub mod Setting
+pub mod Under
+pub mod Steps
+pub mod Appending
+pub mod RowLines
