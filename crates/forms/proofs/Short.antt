@@ -52,29 +52,37 @@ module _ (t : Table) (h : isTable t ≡ true) where
   H : HeaderFacts (t .header)
   H = header-facts (t .header) (F .header-in-range)
 
-  opening-short : length (openingLine (t .header)) ≤ 73
+  pub opening-short : length (openingLine (t .header)) ≤ 73
   unfolding openingLine lengthOf
   opening-short = omega (arith, line-length opening (t .header .size ∷ t .header .own ∷ t .header .capacity ∷ length (t .header .kinds) ∷ []) (t .header .kinds) refl, H .objects-range .1)
 
-  clock-short : length (clockLine (t .clock)) ≤ 73
+  pub clock-short : length (clockLine (t .clock)) ≤ 73
   unfolding clockLine lengthOf
   clock-short = omega (arith, line-length clock [] (t .clock) refl, F .clock-length, H .size-range .1)
 
+  pub last-short : (k : ℕ) → k < t .header .size → length (lastLine k (getD (t .last) k [])) ≤ 73
+  unfolding lastLine lengthOf
+  last-short k b = omega (arith, line-length lastVector (k ∷ []) (getD (t .last) k []) refl, last-known t h k b .0, H .size-range .1)
+
   lasts-short : Short (lastLines t)
-  unfolding lastLines lastLine lengthOf
+  unfolding lastLines
   lasts-short = short-lines (λ (station : ℕ). not (eqb station (t .header .own))) lastLine 0 (t .last) []
-      (λ i b. let z : 0 + i ≡ i = omega arith in rw z (omega (arith, line-length lastVector (i ∷ []) (getD (t .last) i []) refl, last-known t h i (omega (arith, F .last-length)) .0, H .size-range .1)))
+      (λ i b. let z : 0 + i ≡ i = omega arith in rw z (last-short i (omega (arith, F .last-length))))
+
+  pub total-short : (o : ℕ) (z : ℤ) → length (totalLine o z) ≤ 73
+  unfolding totalLine lengthOf
+  total-short o z = omega (arith, line-length total (o ∷ totalWords z) [] refl)
 
   totals-short : Short (totalLines t)
-  unfolding totalLines totalLine lengthOf
+  unfolding totalLines
   totals-short = short-lines (λ (object : ℕ). isCounter (kindIn (t .header) object)) totalLine 0 (t .totals) (pos 0)
-      (λ i b. let z : 0 + i ≡ i = omega arith in rw z (omega (arith, line-length total (i ∷ totalWords (getD (t .totals) i (pos 0))) [] refl)))
+      (λ i b. total-short (0 + i) (getD (t .totals) i (pos 0)))
 
-  row-short : (r : Row) → List·Memᴰ r (t .rows) → length (rowLine (t .header .size) r) ≤ 73
+  pub row-short : (r : Row) → List·Memᴰ r (t .rows) → length (rowLine (t .header .size) r) ≤ 73
   unfolding rowLine lengthOf
   row-short r m = omega (arith, line-length row (r .operation .object ∷ r .operation .code ∷ cond (r .settled) 1 0 ∷ r .operation .sender ∷ r .operation .value ∷ []) (padded (t .header .size) (r .operation .vector)) refl, length-padded (t .header .size) (r .operation .vector) (row-known t h r m .1), H .size-range .1)
 
-  closing-short : length (closingLine (length (t .rows))) ≤ 73
+  pub closing-short : length (closingLine (length (t .rows))) ≤ 73
   unfolding closingLine lengthOf
   closing-short = omega (arith, line-length closing (length (t .rows) ∷ []) [] refl)
 

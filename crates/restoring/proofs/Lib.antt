@@ -3,3 +3,5 @@ pub mod Under
 pub mod Steps
 pub mod Appending
 pub mod RowLines
+pub mod Mixed
+pub mod Front
