@@ -5,3 +5,4 @@ pub mod Shaping
 pub mod ExactlyWhen
 pub mod FrameBack
 pub mod Station
+pub mod Lines

@@ -146,7 +146,7 @@ module _ (words : List ℕ) (station : Station) (H : Holds words station) where
   call-holds (settles line) = settle-holds line
 
 -- events one after the other
-after-both : (first rest : List Event) (station : Station) → afterAll (first ++ rest) station ≡ afterAll rest (afterAll first station)
+pub after-both : (first rest : List Event) (station : Station) → afterAll (first ++ rest) station ≡ afterAll rest (afterAll first station)
 unfolding afterAll
 after-both [] rest station = refl
 after-both (event ∷ first) rest station = after-both first rest (after event station)
