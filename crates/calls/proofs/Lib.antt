@@ -6,3 +6,4 @@ pub mod ExactlyWhen
 pub mod FrameBack
 pub mod Station
 pub mod Lines
+pub mod ByType

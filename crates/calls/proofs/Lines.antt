@@ -73,7 +73,7 @@ zeros-long : 149 ≤ length (zeros 149)
 unfolding zeros
 zeros-long = omega arith
 
-zeros-frame : length (zeros 147) ≡ 147
+pub zeros-frame : length (zeros 147) ≡ 147
 unfolding zeros
 zeros-frame = refl
 
@@ -138,7 +138,7 @@ unfolding answerOn
 question-on line words held type = on-table line words held ∙ rw type refl
 
 -- every frame that is issued has room
-frame-room : (words : List ℕ) → Checked words → (local : Local) → length (hexLine (frameBytes (issuedBy (tableOf words) local))) ≤ 147
+pub frame-room : (words : List ℕ) → Checked words → (local : Local) → length (hexLine (frameBytes (issuedBy (tableOf words) local))) ≤ 147
 unfolding frameBytes issuedBy lengthOf
 frame-room words K local =
     let table = tableOf words in
