@@ -1,6 +1,6 @@
 -- The station program's answer to a line of each type is what the call of that type answers.
 use mathlib.Core.Path.{_≡_, refl, sym, ap, _∙_}
-use mathlib.Core.Bool.{Bool, true, false, cond}
+use mathlib.Core.Bool.{Bool, true, false, cond, false≢true}
 use mathlib.Core.List.{List, _∷_}
 use Prim.Native.Nat.{ℕ}
 use borrow.Author.Tests.{le-leb}
@@ -13,7 +13,7 @@ use Rattle.meaning.specs.Refusals.{Local, issuedBy, refusalOfLocal}
 use Rattle.meaning.specs.Questions as asks
 use Rattle.meaning.specs.Calls as meaning
 use Rattle.meaning.specs.Calls.{afterArrival, outcome}
-use Rattle.layout.specs.Layout.{holdsTable, rewritten, tableOf}
+use Rattle.layout.specs.Layout.{holdsTable, rewritten, spaceFor, tableOf}
 use Rattle.allowing.specs.Asking.{askedFrom}
 use Rattle.checked.proofs.Checking.{checked}
 use Rattle.asks.specs.declared.Reply.{Reply}
@@ -21,21 +21,24 @@ use Rattle.asks.specs.declared.Reply.the-variants as reply
 use Rattle.asks.specs.Replies.{replied}
 use Rattle.hexes.specs.Choice.{pick}
 use Rattle.hexes.specs.Hex.{digitOf, digitsOf, hexLine}
-use Rattle.writing.specs.Writing.{lineWritten}
+use Rattle.hexes.specs.Numbers.{bigEndian}
+use Rattle.shapes.specs.Shapes.{written}
+use Rattle.writing.specs.Writing.{lineBytes, lineWritten}
 use Rattle.lines.specs.Types.{issue, opening, operation, question, settling}
-use Rattle.lines.specs.Named.{issueRead, questionRead}
+use Rattle.lines.specs.Named.{issueRead, openingRead, operationRead, questionRead, settlingRead}
 use Rattle.heard.specs.Hearing.{bytesOf}
 use Rattle.telling.specs.Telling.{listBytes, refusalBytes, replyBytes}
 use Rattle.spoken.specs.declared.Issued.the-variants as issued
+use Rattle.spoken.specs.declared.Opened.the-variants as opened
 use Rattle.spoken.specs.declared.Received.the-variants as received
 use Rattle.spoken.specs.declared.Settled.the-variants as settled
-use Rattle.spoken.specs.Spoken.{frameBytes, framedAs, issuedAs, issuedOn, localOf, openedBy, receivedOn, repliedOn, settledOn}
+use Rattle.spoken.specs.Spoken.{frameBytes, frameOf, framedAs, headerRead, issuedAs, issuedOn, localOf, openedAs, openedBy, receivedAs, receivedOn, repliedOn, settledAs, settledOn}
 use Rattle.answering.specs.Answering.{answerOn, changing, issueAnswer, issuedBytes, openedBytes, questionAnswer, receivedBytes, secondOpening, settledBytes}
 use Rattle.calls.specs.Answers.{answerOf, typeOf}
 use Rattle.calls.specs.Calls as calls
 use Rattle.calls.specs.Calls.{receivedBy, repliedBy, settledBy}
-use Rattle.calls.specs.Lines.{ByType, issuedTold, repliedTold}
-use Rattle.calls.proofs.Lines.{frame-room, zeros-frame}
+use Rattle.calls.specs.Lines.{ByType, isDone, issuedTold, repliedTold}
+use Rattle.calls.proofs.Lines.{done-is-done, frame-room, zeros-frame}
 
 module _ (line words : List ℕ) where
   -- before an accepted opening, and at a table
@@ -162,3 +165,65 @@ module _ (line words : List ℕ) where
     opened = told-opening line words;
     second = told-second line words;
   }
+
+-- "a refusal changes no byte": what each answer leaves, where it does not begin with `00`
+module _ (line words : List ℕ) where
+  abbrev Quiet : List ℕ × List ℕ → Type 0
+  Quiet (bytes, after) = isDone bytes ≡ false → after ≡ words
+
+  quiet-frame : (x : meaning.Outcome) → Quiet (changing receivedBytes (receivedAs words x))
+  unfolding receivedAs receivedBytes
+  quiet-frame (meaning.Outcome.refused number) f = refl
+  quiet-frame (meaning.Outcome.accepted u table) f = absurd (false≢true (sym f ∙ done-is-done))
+
+  quiet-issue : (x : meaning.Outcome) → Quiet (issuedBytes words x)
+  unfolding issuedBytes isDone
+  quiet-issue (meaning.Outcome.refused number) f = refl
+  quiet-issue (meaning.Outcome.accepted u table) f = absurd (false≢true (sym f))
+
+  quiet-settling : (x : meaning.Settled) → Quiet (changing settledBytes (settledAs words x))
+  unfolding settledAs settledBytes isDone lineBytes written bigEndian
+  quiet-settling (meaning.Settled.refused number) f = refl
+  quiet-settling (meaning.Settled.settled steps table) f = absurd (false≢true (sym f))
+
+  quiet-opening : (x : meaning.Opening) → Quiet (changing openedBytes (openedAs words x))
+  unfolding openedAs openedBytes
+  quiet-opening (meaning.Opening.refused number) f = refl
+  quiet-opening (meaning.Opening.fresh table) f = absurd (false≢true (sym f ∙ done-is-done))
+
+  quiet-table : Quiet (answerOn (typeOf line) line words)
+  unfolding answerOn receivedOn issueAnswer settledOn
+  quiet-table = by (eqb (typeOf line) 32) (eqb (typeOf line) 33) (eqb (typeOf line) 48) (eqb (typeOf line) 64) (eqb (typeOf line) 16)
+    where
+      frames : (b : Bool) → Quiet (changing receivedBytes (pick b (receivedAs words (meaning.receive (tableOf words) (frameOf (operationRead (bytesOf line))))) (received.Refused 1, words)))
+      frames true = quiet-frame (meaning.receive (tableOf words) (frameOf (operationRead (bytesOf line))))
+      frames false = λ _. refl
+
+      locals : (b : Bool) → Quiet (pick b (issuedBytes words (meaning.issue (tableOf words) (localOf (issueRead (bytesOf line))))) (refusalBytes 1, words))
+      locals true = quiet-issue (meaning.issue (tableOf words) (localOf (issueRead (bytesOf line))))
+      locals false = λ _. refl
+
+      settlings : (b : Bool) → Quiet (changing settledBytes (pick b (settledAs words (meaning.settle (tableOf words) (settlingRead (bytesOf line) .limit))) (settled.Refused 1, words)))
+      settlings true = quiet-settling (meaning.settle (tableOf words) (settlingRead (bytesOf line) .limit))
+      settlings false = λ _. refl
+
+      by : (a b c d e : Bool) → Quiet (pick a (changing receivedBytes (receivedOn line words)) (pick b (issueAnswer line words) (pick c (changing settledBytes (settledOn line words)) (pick d (questionAnswer line words, words) (pick e (secondOpening line, words) (refusalBytes 1, words))))))
+      by true b c d e = frames (operationRead (bytesOf line) .ok)
+      by false true c d e = locals (issueRead (bytesOf line) .ok)
+      by false false true d e = settlings (settlingRead (bytesOf line) .ok)
+      by false false false true e = λ _. refl
+      by false false false false true = λ _. refl
+      by false false false false false = λ _. refl
+
+  pub refused-changes-nothing : isDone (answerOf line words .0) ≡ false → answerOf line words .1 ≡ words
+  unfolding answerOf openedBy
+  refused-changes-nothing = by (holdsTable words) (eqb (typeOf line) 16) (openingRead (bytesOf line) .ok)
+    where
+      opens : meaning.Opening
+      opens = meaning.openTable (length words) (spaceFor (headerRead (bytesOf line) .size) (headerRead (bytesOf line) .capacity)) (headerRead (bytesOf line))
+
+      by : (b c d : Bool) → Quiet (pick b (answerOn (typeOf line) line words) (pick c (changing openedBytes (pick d (openedAs words opens) (opened.Refused 1, words))) (refusalBytes 14, words)))
+      by true c d = quiet-table
+      by false true true = quiet-opening opens
+      by false true false = λ _. refl
+      by false false d = λ _. refl

@@ -65,7 +65,7 @@ refusal-not-done : (number : ℕ) → isDone (refusalBytes number) ≡ false
 unfolding isDone refusalBytes lineBytes written bigEndian
 refusal-not-done number = refl
 
-done-is-done : isDone doneBytes ≡ true
+pub done-is-done : isDone doneBytes ≡ true
 unfolding isDone doneBytes lineBytes written bigEndian
 done-is-done = refl
 
