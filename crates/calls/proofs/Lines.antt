@@ -57,8 +57,8 @@ use Rattle.calls.specs.Calls.{receivedBy, settledBy}
 use Rattle.calls.specs.Station.{Call, receives, issues, settles, wordsAfter, wordsAfterAll, frameFits, eventsOf, eventsOfAll}
 use Rattle.calls.specs.Lines.{OpenedBy, acceptedBy, acceptedByAll, callsOf, callsOfAll, isDone, linesAfter, meantAnswer, offeredBy}
 use Rattle.spoken.proofs.Receiving.{picked}
-use Rattle.calls.proofs.Station as station
-use Rattle.calls.proofs.Station.{Holds, after-both, calls-hold, holds-reached, opening-in-range}
+use Rattle.calls.proofs.Calling as calling
+use Rattle.calls.proofs.Calling.{Holds, after-both, calls-hold, holds-reached, opening-in-range}
 
 -- a refusal is none of `00`
 refusal-not-done : (number : ℕ) → isDone (refusalBytes number) ≡ false
@@ -397,7 +397,7 @@ module _ (line before words : List ℕ) (O : OpenedBy line before words) (lines 
       let now : here ≡ wordsAfterAll (callsOfAll lines) words = now-is line before words O lines in
       let now′ : there ≡ wordsAfterAll (callsOfAll lines′) words′ = now-is line′ before′ words′ O′ lines′ in
       ap rowsIn now
-      ∙ station.equal-rows line before words (opened-fresh line before words O) (callsOfAll lines) line′ before′ words′ (opened-fresh line′ before′ words′ O′) (callsOfAll lines′) objects (same to) (same′ from) sizes
+      ∙ calling.equal-rows line before words (opened-fresh line before words O) (callsOfAll lines) line′ before′ words′ (opened-fresh line′ before′ words′ O′) (callsOfAll lines′) objects (same to) (same′ from) sizes
       (subst (λ (w : List ℕ). unsettledCount (tableOf w .rows) ≡ 0) now none) (subst (λ (w : List ℕ). unsettledCount (tableOf w .rows) ≡ 0) now′ none′)
       ∙ sym (ap rowsIn now′)
 
