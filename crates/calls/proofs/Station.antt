@@ -1,5 +1,6 @@
 -- The theorems of a station, by name: from an opening line that was answered `00`, over any lines given one after the other.
--- every question line gets what the definitions say over all operations accepted so far; stations that accepted the same ones agree, and fully settled ones hold the same rows
+-- every question line gets what the definitions say over all operations accepted so far; stations that accepted the same ones agree, and fully
+-- settled ones hold the same rows; 11 is never told
 pub use Rattle.calls.proofs.Lines.{every-answer, equal-answers, equal-rows, never-eleven}
 -- the space holds the table that the meaning reaches
 pub use Rattle.calls.proofs.Lines.{lines-hold}
