@@ -34,7 +34,8 @@ use Rattle.spoken.specs.declared.Received.the-variants as received
 use Rattle.spoken.specs.declared.Settled.the-variants as settled
 use Rattle.spoken.specs.Spoken.{frameBytes, frameOf, framedAs, headerRead, issuedAs, issuedOn, localOf, openedAs, openedBy, receivedAs, receivedOn, repliedOn, settledAs, settledOn}
 use Rattle.answering.specs.Answering.{answerOn, changing, issueAnswer, issuedBytes, openedBytes, questionAnswer, receivedBytes, secondOpening, settledBytes}
-use Rattle.calls.specs.Answers.{answerOf, typeOf}
+use Rattle.heard.specs.Hearing.{typeOf}
+use Rattle.calls.specs.Answers.{answerOf}
 use Rattle.calls.specs.Calls as calls
 use Rattle.calls.specs.Calls.{receivedBy, repliedBy, settledBy}
 use Rattle.calls.specs.Lines.{ByType, isDone, issuedTold, repliedTold}

@@ -38,7 +38,7 @@ use Rattle.lines.specs.Named.{issueRead, openingRead, operationRead, questionRe
 use Rattle.printed.specs.Printed.{printed}
 use Rattle.heard.specs.Hearing.{bytesOf}
 use Rattle.telling.specs.Telling.{listBytes, refusalBytes, replyBytes}
-use Rattle.telling.proofs.Short.{line-length}
+use Rattle.lines.proofs.Lengths.{line-length}
 use Rattle.telling.proofs.Told.{chain, never-long}
 use Rattle.spoken.specs.declared.Issued.{Issued}
 use Rattle.spoken.specs.declared.Issued.the-variants as issued
@@ -51,7 +51,8 @@ use Rattle.spoken.specs.declared.Opened.the-variants as opened
 use Rattle.spoken.specs.Spoken.{frameBytes, frameOf, headerRead, issuedOn, localOf, openedBy, receivedAs, receivedOn, settledOn}
 use Rattle.answering.specs.Answering.{answerOn, doneBytes, issueAnswer, issuedBytes, openedBytes, questionAnswer, receivedBytes, secondOpening, settledBytes, toldAfter}
 use Rattle.answering.proofs.Framing.{issue-framed, issue-refused}
-use Rattle.calls.specs.Answers.{answerOf, typeOf}
+use Rattle.heard.specs.Hearing.{typeOf}
+use Rattle.calls.specs.Answers.{answerOf}
 use Rattle.calls.specs.Calls as calls
 use Rattle.calls.specs.Calls.{receivedBy, settledBy}
 use Rattle.calls.specs.Station.{Call, receives, issues, settles, wordsAfter, wordsAfterAll, frameFits, eventsOf, eventsOfAll}

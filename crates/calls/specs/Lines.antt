@@ -23,7 +23,8 @@ use Rattle.spoken.specs.declared.Issued.{Issued}
 use Rattle.spoken.specs.declared.Issued.the-variants as issued
 use Rattle.spoken.specs.Spoken.{frameOf, localOf, openedBy}
 use Rattle.answering.specs.Answering.{changing, doneBytes, isType, openedBytes, receivedBytes, secondOpening, settledBytes}
-use Rattle.calls.specs.Answers.{answerOf, typeOf}
+use Rattle.heard.specs.Hearing.{typeOf}
+use Rattle.calls.specs.Answers.{answerOf}
 use Rattle.calls.specs.Calls as calls
 use Rattle.calls.specs.Calls.{receivedBy, repliedBy, settledBy}
 use Rattle.calls.specs.Station.{Call, receives, issues, settles}

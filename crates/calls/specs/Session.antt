@@ -21,7 +21,8 @@ use Rattle.heard.specs.Hearing.{bytesOf}
 use Rattle.telling.specs.Telling.{listBytes, refusalBytes, replyBytes}
 use Rattle.spoken.specs.Spoken.{frameBytes, frameOf, headerRead, localOf, openedAs, openedBy, receivedAs, receivedOn, settledAs, settledOn}
 use Rattle.answering.specs.Answering.{answerOn, doneBytes, issueAnswer, issuedBytes, openedBytes, questionAnswer, receivedBytes, secondOpening, settledBytes}
-use Rattle.calls.specs.Answers.{answerOf, typeOf}
+use Rattle.heard.specs.Hearing.{typeOf}
+use Rattle.calls.specs.Answers.{answerOf}
 use Rattle.calls.specs.Lines.{linesAfter}
 
 -- The characters of a text, and its line.
