@@ -162,7 +162,7 @@ module _ (t : Table) (is : isTable t ≡ true) (rest : List ℕ) where
   unfolding zeros
   zeros-long = length-replicate size 0
 
-  lasts-long : Each (λ (v : Vector). length v ≡ size) (t .last)
+  pub lasts-long : Each (λ (v : Vector). length v ≡ size) (t .last)
   lasts-long = each-wide size (t .last) (W .fit .last-wide)
 
   no-last-long : Each (λ (v : Vector). length v ≡ size) no-last
@@ -178,7 +178,7 @@ module _ (t : Table) (is : isTable t ≡ true) (rest : List ℕ) where
   no-totals-range = each-replicate InRange (length kinds) (pos 0) (omega arith)
 
   -- the states of a load, by what is there
-  abbrev lasts-at : ℕ → Table
+  abbrev pub lasts-at : ℕ → Table
   lasts-at k = parts (t .clock) (mixed k (t .last) no-last) no-totals []
 
   abbrev totals-at : ℕ → Table
@@ -234,7 +234,7 @@ module _ (t : Table) (is : isTable t ≡ true) (rest : List ℕ) where
       let rule : same (getD (t .last) own []) (zeros size) ≡ true = rw (eq-eqb own own refl) at (F .last-rule own (F .own-in)) in
       same-eq (getD (t .last) own []) (zeros size) rule ∙ sym (getD-replicate size own (zeros size) [] (F .own-in))
 
-  abbrev behind-lasts : List ℕ
+  abbrev pub behind-lasts : List ℕ
   behind-lasts = under (suc size) (totals-at 0) rest
 
   lasts-done : (k : ℕ) → k ≡ size → under (suc (suc (others own k))) (lasts-at k) rest ≡ behind-lasts
@@ -272,7 +272,7 @@ module _ (t : Table) (is : isTable t ≡ true) (rest : List ℕ) where
   lasts-taken = let none : others own 0 ≡ 0 = rw (le-leb 0 own (omega arith)) refl in (rw none at (lasts-from size 0 (omega arith)))
 
   -- `52`, for each counter from one on
-  abbrev counted : ℕ → ℕ
+  abbrev pub counted : ℕ → ℕ
   counted k = suc (size + counters kinds k)
 
   abbrev is-counter : ℕ → Bool

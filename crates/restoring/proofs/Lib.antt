@@ -5,3 +5,4 @@ pub mod Appending
 pub mod RowLines
 pub mod Mixed
 pub mod Front
+pub mod RoundTrip
