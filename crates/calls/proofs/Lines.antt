@@ -131,7 +131,7 @@ unfolding tableOf
 size-few words K = K .few
 
 -- a question line at a table
-question-on : (line words : List ℕ) → holdsTable words ≡ true → typeOf line ≡ question .typeByte → answerOf line words ≡ (questionAnswer line words, words)
+pub question-on : (line words : List ℕ) → holdsTable words ≡ true → typeOf line ≡ question .typeByte → answerOf line words ≡ (questionAnswer line words, words)
 unfolding answerOn
 question-on line words held type = on-table line words held ∙ rw type refl
 
@@ -309,9 +309,9 @@ module _ (line before words : List ℕ) (O : OpenedBy line before words) where
   abbrev header : Header
   header = headerRead (bytesOf line)
 
-  start : Holds words (reached header [])
+  pub opened-holds : Holds words (reached header [])
   unfolding wordsAfterAll eventsOfAll
-  start = holds-reached line before words opened-fresh []
+  opened-holds = holds-reached line before words opened-fresh []
 
   module _ (lines : List (List ℕ)) where
     abbrev now : List ℕ
@@ -324,11 +324,11 @@ module _ (line before words : List ℕ) (O : OpenedBy line before words) where
     events = eventsOfAll (callsOfAll lines) words
 
     now-is : now ≡ wordsAfterAll (callsOfAll lines) words
-    now-is = lines-words lines words (reached header []) start
+    now-is = lines-words lines words (reached header []) opened-holds
 
     accepted-is : reached header events .accepted ≡ accepted
     unfolding reached afterAll
-    accepted-is = lines-accepted lines words (reached header []) start
+    accepted-is = lines-accepted lines words (reached header []) opened-holds
 
     pub lines-hold : Holds now (reached header events)
     lines-hold = subst (λ (w : List ℕ). Holds w (reached header events)) (sym now-is) (holds-reached line before words opened-fresh (callsOfAll lines))
