@@ -17,13 +17,14 @@ use Rattle.hexes.specs.declared.Decoded.{Decoded}
 use Rattle.hexes.specs.declared.Decoded.the-variants.{Bytes, Malformed}
 use Rattle.hexes.proofs.Keeping.{kept-decoded, kept-is-cut}
 use Rattle.hexes.proofs.Spelling.{cut-type}
+use Rattle.ranges.specs.Spaces.{mostWords}
 use Rattle.heard.specs.Hearing.{bytesOf}
 use Rattle.calls.specs.declared.Answered.{Answered}
 use Rattle.calls.specs.declared.Answered.the-variants.{Line, End}
-use Rattle.calls.specs.Answers.{answeredBy, byteOfType, typeOf}
+use Rattle.calls.specs.Answers.{answeredBy, byteOfType, longestAnswer, typeOf}
 use Rattle.station.specs.declared.More.{More}
 use Rattle.station.specs.declared.More.the-variants as more
-use Rattle.station.specs.Replying.{Held, orEnd, pushed, replied, repliedFrom}
+use Rattle.station.specs.Replying.{Held, mostLines, orEnd, pushed, replied, repliedFrom}
 use Rattle.station.specs.Feeding.{afterLines, atEnd, fed, Going, heldFed, heldOn, heldTaken, Keeps, LastPiece, lineOn, NoLf, restOf, StillGoing, taken, WholeLines}
 use Rattle.station.proofs.Alike.{answered-alike}
 use Rattle.station.proofs.Replying.{kept-all-within, kept-within}
@@ -177,7 +178,7 @@ module _ (a b : List ℕ) (same : (k : ℕ) (words out : List ℕ) → answeredB
 
   replied-alike : (held : Held) → replied a held ≡ replied b held
   unfolding replied
-  replied-alike held = from-alike 562 0 held (replicate 4103 0)
+  replied-alike held = from-alike mostLines 0 held (replicate longestAnswer 0)
 
 -- of no characters none are kept
 pub keeps-none : (space : List ℕ) → length space ≡ 2 * 261 + 1 → Keeps [] space 0
@@ -279,12 +280,12 @@ module _ (space : List ℕ) (have : ℕ) where
 
 -- what main keeps: the lengths of the spaces, and that input goes on
 pub record Holding (words space pending : List ℕ) (have : ℕ) : Type 0 where
-  pub words-long : length words ≡ 12151
+  pub words-long : length words ≡ mostWords
   pub line-long : length space ≡ 523
   pub pending-long : length pending ≡ 65536
   pub going : Going space have
 
-pub holding-start : (words space pending : List ℕ) → length words ≡ 12151 → length space ≡ 523 → length pending ≡ 65536 → Holding words space pending 0
+pub holding-start : (words space pending : List ℕ) → length words ≡ mostWords → length space ≡ 523 → length pending ≡ 65536 → Holding words space pending 0
 holding-start words space pending v l u = record { words-long = v; line-long = l; pending-long = u; going = record { line = []; keeps = keeps-none space l } }
 
 pub holding-turn : (words space pending x s p : List ℕ) (have n : ℕ) (r : More) → Holding words space pending have → StillGoing have s r → r ≡ more.Yes n → length x ≡ length words → length s ≡ length space → length p ≡ length pending → Holding x s p n

@@ -2,18 +2,19 @@
 use Prim.Native.Nat.{ℕ, suc, _+_, _-_, _≤_, _<_}
 use mathlib.Core.Path.{_≡_, refl, sym, ap, subst, _∙_}
 use mathlib.Core.Bool.{Bool, true, false}
-use mathlib.Core.List.{List, [], _∷_}
+use mathlib.Core.List.{List, [], _∷_, _++_, append-nil}
 use native.Mathlib.Numerals.{add-one}
 use native.Mathlib.Omega.{arith}
-use borrow.Author.Tests.{le-leb, lt-leb, ltb-true}
-use lib.Dec.{ltb}
+use borrow.Author.Tests.{le-leb, leb-true, lt-leb, ltb-true}
+use lib.Dec.{leb, ltb}
 use lib.ListN.{length, getD, take, drop, set, replicate, drop-of-length-le, length-set}
-use lib.Seq.{drop-cons}
+use lib.Seq.{append-snoc, drop-cons, take-suc-set}
 use Rattle.hexes.specs.Choice.{pick}
 use Rattle.hexes.specs.Keeping.{kept, keptAll}
+use Rattle.hexes.proofs.Keeping.{kept-room}
 use Rattle.calls.specs.declared.Answered.{Answered}
 use Rattle.calls.specs.declared.Answered.the-variants.{Line, End}
-use Rattle.calls.specs.Answers.{answeredBy}
+use Rattle.calls.specs.Answers.{answeredBy, longestAnswer}
 use Rattle.station.specs.Replying.{Held, mostLines, orEnd, pushed, replied, repliedFrom}
 
 -- no more characters are kept than the space holds
@@ -29,6 +30,24 @@ pub kept-all-within : (space : List ℕ) (have : ℕ) (text : List ℕ) → have
 unfolding keptAll
 kept-all-within space have [] h = h
 kept-all-within space have (b ∷ text) h = kept-all-within (kept space have b .1) (kept space have b .0) text (kept-within space have b h)
+
+-- where there is room every character is kept, behind those that stood there
+kept-all-room : (text space : List ℕ) (have : ℕ) → have + length text ≤ length space → take (keptAll space have text .0) (keptAll space have text .1) ≡ take have space ++ text
+unfolding keptAll
+kept-all-room [] space have h = sym (append-nil (take have space))
+kept-all-room (b ∷ text) space have h =
+    let less : have < length space = omega arith in
+    let next : take (have + 1) (set space have b) ++ text ≡ take have space ++ (b ∷ text) = rw (add-one have, take-suc-set space have b less) (append-snoc (take have space) b text) in
+    ap (λ (q : ℕ × List ℕ). take (keptAll (q .1) (q .0) text .0) (keptAll (q .1) (q .0) text .1)) (sym (kept-room space have b less)) ∙ kept-all-room text (set space have b) (have + 1) (omega (arith, length-set space have b)) ∙ next
+
+-- nothing is let go of an output line that is no longer than the space: it waits behind the others, or alone once they are written
+pub waits-whole : (pending : List ℕ) (count : ℕ) (text : List ℕ) → count ≤ length pending → length text ≤ length pending → take (pushed pending count text .0) (pushed pending count text .1) ≡ pick (leb (length text) (length pending - count)) (take count pending ++ text) text
+unfolding pushed
+waits-whole pending count text c l = go (leb (length text) (length pending - count)) refl
+  where
+    go : (t : Bool) → leb (length text) (length pending - count) ≡ t → take (pick t (keptAll pending count text) (keptAll pending 0 text) .0) (pick t (keptAll pending count text) (keptAll pending 0 text) .1) ≡ pick t (take count pending ++ text) text
+    go true e = kept-all-room text pending count (omega (arith, leb-true (length text) (length pending - count) e))
+    go false e = kept-all-room text pending 0 (omega arith)
 
 -- the characters of the text from `i` on are still to be kept
 pub record Appending (space₀ : List ℕ) (from : ℕ) (text space : List ℕ) (at i : ℕ) : Type 0 where
@@ -78,7 +97,7 @@ pub record Replying (line words₀ : List ℕ) (count₀ : ℕ) (pending₀ word
   pub pending-long : length pending ≡ length pending₀
 
 module _ (line words₀ : List ℕ) (count₀ : ℕ) (pending₀ : List ℕ) where
-  pub replying-start : (out : List ℕ) → out ≡ replicate 4103 0 → count₀ ≤ length pending₀ → Replying line words₀ count₀ pending₀ words₀ out count₀ pending₀ 0
+  pub replying-start : (out : List ℕ) → out ≡ replicate longestAnswer 0 → count₀ ≤ length pending₀ → Replying line words₀ count₀ pending₀ words₀ out count₀ pending₀ 0
   unfolding replied
   replying-start out e h = record { left = rw e refl; place = omega arith; within = h; words-long = refl; pending-long = refl }
 

@@ -3,6 +3,7 @@ use Rattle.station.proofs.Replying.{Replying, replying-start, replying-
 use Rattle.station.proofs.Alike.{line-within}
 use Prim.Native.Nat.{_-_}
 use borrow.Author.Needs.{needs}
+use Rattle.station.specs.Replying.{mostLines}
 use Rattle.station.proofs.reply.Statement.{statement}
 use Rattle.station.proofs.reply.Tie as tie
 
@@ -10,7 +11,7 @@ abbrev Inv-loop : tie.InvT-loop
 Inv-loop space₀ line pending₀ out₀ count₀ open₀ k₀ space pending out count «open» k = Replying line space₀ count₀ pending₀ space out count pending k
 
 abbrev μ-loop : tie.MeasureT-loop
-μ-loop space₀ line pending₀ out₀ count₀ open₀ k₀ space pending out count «open» k = 562 - k
+μ-loop space₀ line pending₀ out₀ count₀ open₀ k₀ space pending out count «open» k = mostLines - k
 
 loop-holds : tie.Need-loop-holds Inv-loop μ-loop
 loop-holds c = search (replying-start, needs)

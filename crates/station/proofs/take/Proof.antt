@@ -20,7 +20,7 @@ part-reply-start : tie.Need-part-reply-start
 part-reply-start c = search needs
 
 part-reply-end : tie.Need-part-reply-end
-part-reply-end c = search have-within
+part-reply-end c = search (have-within, needs)
 
 reply-requires : tie.Need-reply-requires
 reply-requires c κs = search needs
