@@ -24,7 +24,7 @@ use Rattle.calls.specs.declared.Answered.the-variants.{Line, End}
 use Rattle.calls.specs.Answers.{answeredBy, byteOfType, longestAnswer, typeOf}
 use Rattle.station.specs.declared.More.{More}
 use Rattle.station.specs.declared.More.the-variants as more
-use Rattle.station.specs.Replying.{Held, mostLines, orEnd, pushed, replied, repliedFrom}
+use Rattle.station.specs.Replying.{HasRoom, Held, mostLines, orEnd, pushed, replied, repliedFrom}
 use Rattle.station.specs.Feeding.{afterLines, atEnd, fed, Going, heldFed, heldOn, heldTaken, Keeps, LastPiece, lineOn, NoLf, restOf, StillGoing, taken, WholeLines}
 use Rattle.station.proofs.Alike.{answered-alike}
 use Rattle.station.proofs.Replying.{kept-all-within, kept-within}
@@ -56,7 +56,7 @@ pub record Feeding (space₀ : List ℕ) (have₀ : ℕ) (words₀ pending₀ pi
   pub held : heldFed space₀ have₀ (words₀, (0, pending₀)) piece ≡ heldFed space have (words, (count, pending)) (drop i piece)
   pub place : i ≤ length piece
   pub line-within : have ≤ length space
-  pub answers-within : count ≤ length pending
+  pub has-room : HasRoom count pending
   pub line-long : length space ≡ length space₀
   pub words-long : length words ≡ length words₀
   pub pending-long : length pending ≡ length pending₀
@@ -65,20 +65,20 @@ pub record Feeding (space₀ : List ℕ) (have₀ : ℕ) (words₀ pending₀ pi
 pub going-within : (space : List ℕ) (have : ℕ) → Going space have → have ≤ length space
 going-within space have G = subst (λ (q : ℕ × List ℕ). q .0 ≤ length (q .1)) (sym (G .keeps .same)) (kept-all-within (G .keeps .empty) 0 (G .line) (omega arith))
 
-pub feeding-start : (space : List ℕ) (have : ℕ) (words pending piece : List ℕ) → Going space have → Feeding space have words pending piece space have words 0 pending 0
-feeding-start space have words pending piece G = record {
+pub feeding-start : (space : List ℕ) (have : ℕ) (words pending piece : List ℕ) → Going space have → HasRoom 0 pending → Feeding space have words pending piece space have words 0 pending 0
+feeding-start space have words pending piece G H = record {
   left = refl;
   held = refl;
   place = omega arith;
   line-within = going-within space have G;
-  answers-within = omega arith;
+  has-room = H;
   line-long = refl;
   words-long = refl;
   pending-long = refl;
 }
 
 module _ (space₀ : List ℕ) (have₀ : ℕ) (words₀ pending₀ piece space : List ℕ) (have : ℕ) (words : List ℕ) (count : ℕ) (pending : List ℕ) (i : ℕ) (F : Feeding space₀ have₀ words₀ pending₀ piece space have words count pending i) where
-  pub feeding-turn : (n : ℕ) (s x : List ℕ) (m : ℕ) (p : List ℕ) → i < length piece → (n, s) ≡ taken space have (getD piece i 0) → (x, (m, p)) ≡ heldTaken space have (words, (count, pending)) (getD piece i 0) → n ≤ length s → m ≤ length p → length s ≡ length space → length x ≡ length words → length p ≡ length pending → Feeding space₀ have₀ words₀ pending₀ piece s n x m p (i + 1)
+  pub feeding-turn : (n : ℕ) (s x : List ℕ) (m : ℕ) (p : List ℕ) → i < length piece → (n, s) ≡ taken space have (getD piece i 0) → (x, (m, p)) ≡ heldTaken space have (words, (count, pending)) (getD piece i 0) → n ≤ length s → HasRoom m p → length s ≡ length space → length x ≡ length words → length p ≡ length pending → Feeding space₀ have₀ words₀ pending₀ piece s n x m p (i + 1)
   unfolding fed heldFed
   feeding-turn n s x m p h e f a b l v u =
       record {
@@ -86,7 +86,7 @@ module _ (space₀ : List ℕ) (have₀ : ℕ) (words₀ pending₀ piece space 
         held = rw (add-one i, f) (F .held ∙ ap (heldFed space have (words, (count, pending))) (drop-cons piece i 0 h) ∙ ap (λ (q : ℕ × List ℕ). heldFed (q .1) (q .0) (heldTaken space have (words, (count, pending)) (getD piece i 0)) (drop (suc i) piece)) (sym e));
         place = omega arith;
         line-within = a;
-        answers-within = b;
+        has-room = b;
         line-long = l ∙ F .line-long;
         words-long = v ∙ F .words-long;
         pending-long = u ∙ F .pending-long;
@@ -284,13 +284,14 @@ pub record Holding (words space pending : List ℕ) (have : ℕ) : Type 0 where
   pub line-long : length space ≡ 523
   pub pending-long : length pending ≡ 65536
   pub going : Going space have
+  pub has-room : HasRoom 0 pending
 
 pub holding-start : (words space pending : List ℕ) → length words ≡ mostWords → length space ≡ 523 → length pending ≡ 65536 → Holding words space pending 0
-holding-start words space pending v l u = record { words-long = v; line-long = l; pending-long = u; going = record { line = []; keeps = keeps-none space l } }
+holding-start words space pending v l u = record { words-long = v; line-long = l; pending-long = u; going = record { line = []; keeps = keeps-none space l }; has-room = record { within = omega arith; room = omega arith } }
 
 pub holding-turn : (words space pending x s p : List ℕ) (have n : ℕ) (r : More) → Holding words space pending have → StillGoing have s r → r ≡ more.Yes n → length x ≡ length words → length s ≡ length space → length p ≡ length pending → Holding x s p n
 holding-turn words space pending x s p have n r H g e v l u =
-    record { words-long = v ∙ H .words-long; line-long = l ∙ H .line-long; pending-long = u ∙ H .pending-long; going = subst (λ (q : More). StillGoing have s q) e g }
+    record { words-long = v ∙ H .words-long; line-long = l ∙ H .line-long; pending-long = u ∙ H .pending-long; going = subst (λ (q : More). StillGoing have s q) e g; has-room = record { within = omega arith; room = omega (arith, H .has-room .room) } }
 
 pub holding-end : (s : List ℕ) (have : ℕ) (r : More) → StillGoing have s r → r ≡ more.End → Going s have
 holding-end s have r g e = subst (λ (q : More). StillGoing have s q) e g

@@ -1,21 +1,21 @@
 -- The output lines for a line join those that wait, one after the other.
 use Prim.Native.Nat.{ℕ, suc, _+_, _-_, _≤_, _<_}
-use mathlib.Core.Path.{_≡_, refl, sym, ap, subst, _∙_}
+use mathlib.Core.Path.{_≡_, refl, sym, ap, _∙_}
 use mathlib.Core.Bool.{Bool, true, false}
-use mathlib.Core.List.{List, [], _∷_, _++_, append-nil}
+use mathlib.Core.List.{List, [], _∷_, _++_}
 use native.Mathlib.Numerals.{add-one}
 use native.Mathlib.Omega.{arith}
-use borrow.Author.Tests.{le-leb, leb-true, lt-leb, ltb-true}
-use lib.Dec.{leb, ltb}
-use lib.ListN.{length, getD, take, drop, set, replicate, drop-of-length-le, length-set}
-use lib.Seq.{append-snoc, drop-cons, take-suc-set}
+use borrow.Author.Tests.{le-leb, lt-leb, ltb-true}
+use lib.Dec.{ltb}
+use lib.ListN.{length, getD, take, drop, set, replicate, drop-of-length-le, length-set, take-append-drop}
+use lib.Seq.{append-snoc, drop-cons, drop-set-lt, take-suc-set}
 use Rattle.hexes.specs.Choice.{pick}
 use Rattle.hexes.specs.Keeping.{kept, keptAll}
 use Rattle.hexes.proofs.Keeping.{kept-room}
 use Rattle.calls.specs.declared.Answered.{Answered}
 use Rattle.calls.specs.declared.Answered.the-variants.{Line, End}
 use Rattle.calls.specs.Answers.{answeredBy, longestAnswer}
-use Rattle.station.specs.Replying.{Held, mostLines, orEnd, pushed, replied, repliedFrom}
+use Rattle.station.specs.Replying.{HasRoom, Held, joined, mostLines, orEnd, pushed, replied, repliedFrom}
 
 -- no more characters are kept than the space holds
 pub kept-within : (space : List ℕ) (have b : ℕ) → have ≤ length space → kept space have b .0 ≤ length (kept space have b .1)
@@ -31,23 +31,21 @@ unfolding keptAll
 kept-all-within space have [] h = h
 kept-all-within space have (b ∷ text) h = kept-all-within (kept space have b .1) (kept space have b .0) text (kept-within space have b h)
 
--- where there is room every character is kept, behind those that stood there
-kept-all-room : (text space : List ℕ) (have : ℕ) → have + length text ≤ length space → take (keptAll space have text .0) (keptAll space have text .1) ≡ take have space ++ text
-unfolding keptAll
-kept-all-room [] space have h = sym (append-nil (take have space))
-kept-all-room (b ∷ text) space have h =
+-- where there is room every character is kept
+kept-joined : (text space : List ℕ) (have : ℕ) → have + length text ≤ length space → keptAll space have text ≡ joined space have text
+unfolding keptAll joined
+kept-joined [] space have h = let z : have + 0 ≡ have = omega arith in rw z (ap (λ (s : List ℕ). (have, s)) (sym (take-append-drop have space)))
+kept-joined (b ∷ text) space have h =
     let less : have < length space = omega arith in
-    let next : take (have + 1) (set space have b) ++ text ≡ take have space ++ (b ∷ text) = rw (add-one have, take-suc-set space have b less) (append-snoc (take have space) b text) in
-    ap (λ (q : ℕ × List ℕ). take (keptAll (q .1) (q .0) text .0) (keptAll (q .1) (q .0) text .1)) (sym (kept-room space have b less)) ∙ kept-all-room text (set space have b) (have + 1) (omega (arith, length-set space have b)) ∙ next
-
--- nothing is let go of an output line that is no longer than the space: it waits behind the others, or alone once they are written
-pub waits-whole : (pending : List ℕ) (count : ℕ) (text : List ℕ) → count ≤ length pending → length text ≤ length pending → take (pushed pending count text .0) (pushed pending count text .1) ≡ pick (leb (length text) (length pending - count)) (take count pending ++ text) text
-unfolding pushed
-waits-whole pending count text c l = go (leb (length text) (length pending - count)) refl
-  where
-    go : (t : Bool) → leb (length text) (length pending - count) ≡ t → take (pick t (keptAll pending count text) (keptAll pending 0 text) .0) (pick t (keptAll pending count text) (keptAll pending 0 text) .1) ≡ pick t (take count pending ++ text) text
-    go true e = kept-all-room text pending count (omega (arith, leb-true (length text) (length pending - count) e))
-    go false e = kept-all-room text pending 0 (omega arith)
+    let end : have + 1 + length text ≡ have + suc (length text) = omega arith in
+    let front : take (have + 1) (set space have b) ≡ take have space ++ (b ∷ []) = ap (λ (n : ℕ). take n (set space have b)) (add-one have) ∙ take-suc-set space have b less in
+    let rest : drop (have + suc (length text)) (set space have b) ≡ drop (have + suc (length text)) space = drop-set-lt (have + suc (length text)) space have b (omega arith) in
+    ap (λ (q : ℕ × List ℕ). keptAll (q .1) (q .0) text) (sym (kept-room space have b less))
+    ∙ kept-joined text (set space have b) (have + 1) (omega (arith, length-set space have b))
+    ∙ ap (λ (n : ℕ). (n, take (have + 1) (set space have b) ++ (text ++ drop n (set space have b)))) end
+    ∙ ap (λ (s : List ℕ). (have + suc (length text), take (have + 1) (set space have b) ++ (text ++ s))) rest
+    ∙ ap (λ (s : List ℕ). (have + suc (length text), s ++ (text ++ drop (have + suc (length text)) space))) front
+    ∙ ap (λ (s : List ℕ). (have + suc (length text), s)) (append-snoc (take have space) b (text ++ drop (have + suc (length text)) space))
 
 -- the characters of the text from `i` on are still to be kept
 pub record Appending (space₀ : List ℕ) (from : ℕ) (text space : List ℕ) (at i : ℕ) : Type 0 where
@@ -68,38 +66,41 @@ module _ (space₀ : List ℕ) (from : ℕ) (text space : List ℕ) (at i : ℕ)
         long = l ∙ A .long;
       }
 
-  pub appending-done : length text ≤ i → (at, space) ≡ keptAll space₀ from text
+  pub appending-done : length text ≤ i → from + length text ≤ length space₀ → (at, space) ≡ joined space₀ from text
   unfolding keptAll
-  appending-done h = sym (A .left ∙ rw (drop-of-length-le text h) refl)
+  appending-done h room = sym (A .left ∙ rw (drop-of-length-le text h) refl) ∙ kept-joined text space₀ from room
 
 -- the ways through push
 module _ (pending : List ℕ) (count : ℕ) (text : List ℕ) (n : ℕ) (s : List ℕ) where
-  pub pushed-joined : length text ≤ length pending - count → (n, s) ≡ keptAll pending count text → (n, s) ≡ pushed pending count text
+  pub pushed-joined : length text ≤ length pending - count → (n, s) ≡ joined pending count text → (n, s) ≡ pushed pending count text
   unfolding pushed
   pushed-joined h e = rw (le-leb (length text) (length pending - count) h) e
 
-  pub pushed-alone : length pending - count < length text → (n, s) ≡ keptAll pending 0 text → (n, s) ≡ pushed pending count text
+  pub pushed-alone : length pending - count < length text → (n, s) ≡ joined pending 0 text → (n, s) ≡ pushed pending count text
   unfolding pushed
   pushed-alone h e = rw (lt-leb (length text) (length pending - count) h) e
 
-  pub all-within : (from : ℕ) → from ≤ length pending → (n, s) ≡ keptAll pending from text → n ≤ length s
-  all-within from h e = subst (λ (q : ℕ × List ℕ). q .0 ≤ length (q .1)) (sym e) (kept-all-within pending from text h)
+  module _ (H : HasRoom count pending) (long : length s ≡ length pending) where
+    pub joined-room : length text ≤ length pending - count → (n, s) ≡ joined pending count text → HasRoom n s
+    unfolding joined
+    joined-room h e = record { within = omega (arith, ap (λ (q : ℕ × List ℕ). q .0) e, H .within); room = omega (arith, H .room) }
 
-  pub alone-within : (n, s) ≡ keptAll pending 0 text → n ≤ length s
-  alone-within e = all-within 0 (omega arith) e
+    pub alone-room : length text ≤ longestAnswer → (n, s) ≡ joined pending 0 text → HasRoom n s
+    unfolding joined
+    alone-room h e = record { within = omega (arith, ap (λ (q : ℕ × List ℕ). q .0) e, H .room); room = omega (arith, H .room) }
 
 -- the output lines from the k-th on are still to be asked for
 pub record Replying (line words₀ : List ℕ) (count₀ : ℕ) (pending₀ words out : List ℕ) (count : ℕ) (pending : List ℕ) (k : ℕ) : Type 0 where
   pub left : replied line (words₀, (count₀, pending₀)) ≡ repliedFrom (mostLines - k) line k (words, (count, pending)) out
   pub place : k ≤ mostLines
-  pub within : count ≤ length pending
+  pub has-room : HasRoom count pending
   pub words-long : length words ≡ length words₀
   pub pending-long : length pending ≡ length pending₀
 
 module _ (line words₀ : List ℕ) (count₀ : ℕ) (pending₀ : List ℕ) where
-  pub replying-start : (out : List ℕ) → out ≡ replicate longestAnswer 0 → count₀ ≤ length pending₀ → Replying line words₀ count₀ pending₀ words₀ out count₀ pending₀ 0
+  pub replying-start : (out : List ℕ) → out ≡ replicate longestAnswer 0 → HasRoom count₀ pending₀ → Replying line words₀ count₀ pending₀ words₀ out count₀ pending₀ 0
   unfolding replied
-  replying-start out e h = record { left = rw e refl; place = omega arith; within = h; words-long = refl; pending-long = refl }
+  replying-start out e h = record { left = rw e refl; place = omega arith; has-room = h; words-long = refl; pending-long = refl }
 
   module _ (words out : List ℕ) (count : ℕ) (pending : List ℕ) (k : ℕ) (R : Replying line words₀ count₀ pending₀ words out count pending k) where
     -- what one output line does
@@ -114,14 +115,14 @@ module _ (line words₀ : List ℕ) (count₀ : ℕ) (pending₀ : List ℕ) whe
     unfolding repliedFrom
     one h = let more : mostLines - k ≡ suc (mostLines - suc k) = omega arith in R .left ∙ ap (λ (n : ℕ). repliedFrom n line k (words, (count, pending)) out) more
 
-    pub replying-turn : k < mostLines → (r : Answered) (n : ℕ) (x y : List ℕ) → (r, (x, y)) ≡ answeredBy line k words out → (m : ℕ) (p : List ℕ) → (m, p) ≡ pushed pending count (take (n - 0) y) → m ≤ length p → r ≡ Line n → length x ≡ length words → length p ≡ length pending → Replying line words₀ count₀ pending₀ x y m p (k + 1)
+    pub replying-turn : k < mostLines → (r : Answered) (n : ℕ) (x y : List ℕ) → (r, (x, y)) ≡ answeredBy line k words out → (m : ℕ) (p : List ℕ) → (m, p) ≡ pushed pending count (take (n - 0) y) → HasRoom m p → r ≡ Line n → length x ≡ length words → length p ≡ length pending → Replying line words₀ count₀ pending₀ x y m p (k + 1)
     replying-turn h r n x y e m p g w f v u =
         let z : n - 0 ≡ n = omega arith in
         let next : pushed pending count (take n y) ≡ (m, p) = ap (λ (a : ℕ). pushed pending count (take a y)) (sym z) ∙ sym g in
         record {
           left = rw (add-one k) (one h ∙ ap (afterTold (mostLines - suc k)) (sym e) ∙ ap (λ (q : Answered). afterTold (mostLines - suc k) (q, (x, y))) f ∙ ap (λ (q : ℕ × List ℕ). repliedFrom (mostLines - suc k) line (suc k) (x, q) y) next);
           place = omega arith;
-          within = w;
+          has-room = w;
           words-long = v ∙ R .words-long;
           pending-long = u ∙ R .pending-long;
         }

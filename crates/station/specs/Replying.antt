@@ -1,10 +1,9 @@
 -- The output lines for an input line: each joins the characters that wait to be written.
-use Prim.Native.Nat.{ℕ, zero, suc, _-_}
-use mathlib.Core.List.{List}
+use Prim.Native.Nat.{ℕ, zero, suc, _+_, _-_, _≤_}
+use mathlib.Core.List.{List, _++_}
 use lib.Dec.{leb}
-use lib.ListN.{length, replicate, take}
+use lib.ListN.{drop, length, replicate, take}
 use Rattle.hexes.specs.Choice.{pick}
-use Rattle.hexes.specs.Keeping.{keptAll}
 use Rattle.calls.specs.declared.Answered.{Answered}
 use Rattle.calls.specs.declared.Answered.the-variants.{Line, End}
 use Rattle.calls.specs.Answers.{answeredBy, longestAnswer}
@@ -13,9 +12,18 @@ use Rattle.calls.specs.Answers.{answeredBy, longestAnswer}
 abbrev pub Held : Type 0
 Held = List ℕ × (ℕ × List ℕ)
 
+-- A text put into a space at a place: the place behind it, and the space.
+unfoldable pub joined : List ℕ → ℕ → List ℕ → ℕ × List ℕ
+joined space at text = (at + length text, take at space ++ (text ++ drop (at + length text) space))
+
 -- An output line joins those that wait; where there is no room for it they are written first, and it stands at the front.
 unfoldable pub pushed : List ℕ → ℕ → List ℕ → ℕ × List ℕ
-pushed pending count text = pick (leb (length text) (length pending - count)) (keptAll pending count text) (keptAll pending 0 text)
+pushed pending count text = pick (leb (length text) (length pending - count)) (joined pending count text) (joined pending 0 text)
+
+-- So many characters wait in a space that holds any output line.
+pub record HasRoom (count : ℕ) (pending : List ℕ) : Type 0 where
+  pub within : count ≤ length pending
+  pub room : longestAnswer ≤ length pending
 
 -- The lines of the longest answer: a saved form's opening, D, 15 last vectors, 32 totals, 512 rows, its closing line.
 abbrev pub mostLines : ℕ

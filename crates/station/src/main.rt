@@ -1,10 +1,10 @@
 // The station program: each line of standard input is answered on standard output, as `calls::answer` says.
 ghost use mathlib.Core.Path.{_≡_};
-ghost use Prim.Native.Nat.{_≤_};
+ghost use Prim.Native.Nat.{_+_, _≤_};
 ghost use lib.ListN.{length};
-ghost use Rattle.hexes.specs.Keeping.{keptAll};
+ghost use Rattle.calls.specs.Answers.{longestAnswer};
 ghost use Rattle.ranges.specs.Spaces.{mostWords};
-ghost use Rattle.station.specs.Replying.{pushed, replied};
+ghost use Rattle.station.specs.Replying.{HasRoom, joined, pushed, replied};
 ghost use Rattle.station.specs.Feeding.{fed, Going, heldFed, heldTaken, LastPiece, StillGoing, taken, WholeLines};
 use calls::Answered;
 use libc::STDIN_FILENO;
@@ -55,7 +55,8 @@ fn flush(pending: &[u8], waiting: Waiting) -> Waiting
 
 // The characters of an answer line behind those that wait; how many wait then.
 fn append(pending: &mut [u8], from: usize, text: &[u8]) -> usize
-    ensures { λ r. ⌜ (r, now (pending .exit)) ≡ keptAll (now (pending .entry)) from (now (text .entry)) ⌝ }
+    requires { ⌜ from + length (now text) ≤ length (now pending) ⌝ }
+    ensures { λ r. ⌜ (r, now (pending .exit)) ≡ joined (now (pending .entry)) from (now (text .entry)) ⌝ }
 {
     let mut at = from;
     let mut i = 0;
@@ -68,9 +69,9 @@ fn append(pending: &mut [u8], from: usize, text: &[u8]) -> usize
 
 // An answer line joins those that wait. Where there is no room for it, they are written first.
 fn push(pending: &mut [u8], waiting: Waiting, text: &[u8]) -> Waiting
-    requires { ⌜ waiting .count ≤ length (now pending) ⌝ }
+    requires { ⌜ HasRoom (waiting .count) (now pending) × (length (now text) ≤ longestAnswer) ⌝ }
     ensures { λ r. ⌜ ((r .count, now (pending .exit)) ≡ pushed (now (pending .entry)) (waiting .count) (now (text .entry)))
-        × (r .count ≤ length (now (pending .exit))) ⌝ }
+        × HasRoom (r .count) (now (pending .exit)) ⌝ }
 {
     let count = waiting.count;
     let open = waiting.open;
@@ -91,10 +92,10 @@ fn push(pending: &mut [u8], waiting: Waiting, text: &[u8]) -> Waiting
 
 // Every output line for a line.
 fn reply(space: &mut [u32], line: &[u8], pending: &mut [u8], waiting: Waiting) -> Waiting
-    requires { ⌜ waiting .count ≤ length (now pending) ⌝ }
+    requires { ⌜ HasRoom (waiting .count) (now pending) ⌝ }
     ensures { λ r. ⌜ ((now (space .exit), (r .count, now (pending .exit)))
         ≡ replied (now (line .entry)) (now (space .entry), (waiting .count, now (pending .entry))))
-        × (r .count ≤ length (now (pending .exit))) ⌝ }
+        × HasRoom (r .count) (now (pending .exit)) ⌝ }
 {
     let mut out = [0u8; calls::LONGEST_ANSWER];
     let mut count = waiting.count;
@@ -118,11 +119,11 @@ fn reply(space: &mut [u32], line: &[u8], pending: &mut [u8], waiting: Waiting) -
 
 // One byte of input: it joins the line, and ends it if it is LF. No more is kept than the space holds.
 fn take(space: &mut [u32], line: &mut [u8], pending: &mut [u8], kept: Kept, b: u8) -> Kept
-    requires { ⌜ (kept .have ≤ length (now line)) × (kept .waiting .count ≤ length (now pending)) ⌝ }
+    requires { ⌜ (kept .have ≤ length (now line)) × HasRoom (kept .waiting .count) (now pending) ⌝ }
     ensures { λ r. ⌜ ((r .have, now (line .exit)) ≡ taken (now (line .entry)) (kept .have) b)
         × (((now (space .exit), (r .waiting .count, now (pending .exit)))
         ≡ heldTaken (now (line .entry)) (kept .have) (now (space .entry), (kept .waiting .count, now (pending .entry))) b)
-        × ((r .have ≤ length (now (line .exit))) × (r .waiting .count ≤ length (now (pending .exit))))) ⌝ }
+        × ((r .have ≤ length (now (line .exit))) × HasRoom (r .waiting .count) (now (pending .exit)))) ⌝ }
 {
     let have = hexes::keep(line, kept.have, b);
     let waiting = kept.waiting;
@@ -138,13 +139,13 @@ fn take(space: &mut [u32], line: &mut [u8], pending: &mut [u8], kept: Kept, b: u
 
 // The bytes of one read. Whole lines are answered, though the space keeps only so much of a long one.
 fn feed(space: &mut [u32], line: &mut [u8], pending: &mut [u8], from: usize, chunk: &[u8]) -> Kept
-    requires { ⌜ Going (now line) from ⌝ }
+    requires { ⌜ Going (now line) from × HasRoom 0 (now pending) ⌝ }
     ensures { λ r. ⌜ ((r .have, now (line .exit)) ≡ fed (now (line .entry)) from (now (chunk .entry)))
         × (((now (space .exit), (r .waiting .count, now (pending .exit)))
         ≡ heldFed (now (line .entry)) from (now (space .entry), (0, now (pending .entry))) (now (chunk .entry)))
         × (WholeLines (now (line .entry)) from (now (space .entry), (0, now (pending .entry))) (now (chunk .entry))
         (now (space .exit), (r .waiting .count, now (pending .exit)))
-        × (Going (now (line .exit)) (r .have) × (r .waiting .count ≤ length (now (pending .exit)))))) ⌝ }
+        × (Going (now (line .exit)) (r .have) × HasRoom (r .waiting .count) (now (pending .exit))))) ⌝ }
 {
     let mut have = from;
     let mut count = 0;
@@ -171,7 +172,7 @@ enum More {
 
 // One read, and its bytes; their answers are written before the next.
 fn some(space: &mut [u32], line: &mut [u8], pending: &mut [u8], have: usize) -> More
-    requires { ⌜ (length (now space) ≡ mostWords) × Going (now line) have ⌝ }
+    requires { ⌜ (length (now space) ≡ mostWords) × (Going (now line) have × HasRoom 0 (now pending)) ⌝ }
     ensures { λ r. ⌜ StillGoing have (now (line .exit)) r ⌝ }
 {
     let mut buffer = io::large_buffer();
@@ -190,10 +191,10 @@ fn some(space: &mut [u32], line: &mut [u8], pending: &mut [u8], have: usize) -> 
 
 // The input is at its end: a last piece without LF is a line too.
 fn end(space: &mut [u32], line: &[u8], pending: &mut [u8], have: usize) -> Waiting
-    requires { ⌜ Going (now line) have ⌝ }
+    requires { ⌜ Going (now line) have × HasRoom 0 (now pending) ⌝ }
     ensures { λ r. ⌜ LastPiece (now (line .entry)) have (now (space .entry), (0, now (pending .entry)))
         (now (space .exit), (r .count, now (pending .exit)))
-        × (r .count ≤ length (now (pending .exit))) ⌝ }
+        × HasRoom (r .count) (now (pending .exit)) ⌝ }
 {
     let waiting = Waiting {
         count: 0,

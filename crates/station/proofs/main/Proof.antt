@@ -23,7 +23,7 @@ slice-aggregate-some-3 : tie.Need-slice-aggregate-some-3 Inv-loop μ-loop
 slice-aggregate-some-3 c = search needs
 
 some-requires : tie.Need-some-requires Inv-loop μ-loop
-some-requires c κs = (search needs, search needs)
+some-requires c κs = (search needs, (search needs, search needs))
 
 enum-known-kept : tie.Need-enum-known-kept Inv-loop μ-loop
 enum-known-kept c = search needs
@@ -41,7 +41,7 @@ slice-aggregate-end-3 : tie.Need-slice-aggregate-end-3 Inv-loop μ-loop
 slice-aggregate-end-3 c = search needs
 
 end-requires : tie.Need-end-requires Inv-loop μ-loop
-end-requires c κs = search holding-end
+end-requires c κs = (search holding-end, search needs)
 
 slice-aggregate-flush : tie.Need-slice-aggregate-flush Inv-loop μ-loop
 slice-aggregate-flush c = search needs

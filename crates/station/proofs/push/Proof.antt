@@ -1,5 +1,5 @@
 -- `station::push` meets its contract.
-use Rattle.station.proofs.Replying.{all-within, alone-within, pushed-alone, pushed-joined}
+use Rattle.station.proofs.Replying.{alone-room, joined-room, pushed-alone, pushed-joined}
 use borrow.Author.Needs.{needs}
 use Rattle.station.proofs.push.Statement.{statement}
 use Rattle.station.proofs.push.Tie as tie
@@ -14,7 +14,7 @@ same-length : tie.Need-same-length
 same-length c = search needs
 
 returns : tie.Need-returns
-returns c = (search pushed-joined, search all-within)
+returns c = (search pushed-joined, search joined-room)
 
 flush-requires : tie.Need-flush-requires
 flush-requires c κs = search needs
@@ -26,7 +26,7 @@ same-length-2 : tie.Need-same-length-2
 same-length-2 c = search needs
 
 returns-2 : tie.Need-returns-2
-returns-2 c = (search pushed-alone, search alone-within)
+returns-2 c = (search pushed-alone, search alone-room)
 
 pub push-spec : {M : Type 1} → statement M
 push-spec =

@@ -1,6 +1,6 @@
 -- `station::reply` meets its contract. The loop keeps `Replying`: the output lines from the k-th on are still to be asked for.
 use Rattle.station.proofs.Replying.{Replying, replying-start, replying-turn, replying-ended, replying-done}
-use Rattle.station.proofs.Alike.{line-within}
+use Rattle.station.proofs.Alike.{line-short, line-within}
 use Prim.Native.Nat.{_-_}
 use borrow.Author.Needs.{needs}
 use Rattle.station.specs.Replying.{mostLines}
@@ -32,7 +32,7 @@ part-push-end : tie.Need-part-push-end Inv-loop μ-loop
 part-push-end c = search (line-within, needs)
 
 push-requires : tie.Need-push-requires Inv-loop μ-loop
-push-requires c κs = search needs
+push-requires c κs = (search needs, search line-short)
 
 enum-told : tie.Need-enum-told Inv-loop μ-loop
 enum-told c = search needs
