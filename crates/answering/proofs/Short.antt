@@ -14,9 +14,10 @@ use Rattle.hexes.specs.Choice.{pick}
 use Rattle.shapes.specs.Shapes.{lengthOf}
 use Rattle.lines.specs.Types.{count, done}
 use Rattle.lines.specs.Named.{issueRead, openingRead, questionRead}
+use Rattle.lines.proofs.Lengths.{line-length}
 use Rattle.heard.specs.Hearing.{bytesOf}
 use Rattle.telling.specs.Telling.{refusalBytes, replyBytes}
-use Rattle.telling.proofs.Short.{line-length, refusal-long, reply-short}
+use Rattle.telling.proofs.Short.{refusal-long, reply-short}
 use Rattle.spoken.specs.declared.Opened.{Opened}
 use Rattle.spoken.specs.declared.Opened.the-variants as opened
 use Rattle.spoken.specs.declared.Issued.{Issued}

@@ -36,7 +36,7 @@ use Rattle.lines.proofs.Longest.{operation-at-most-longest}
 use Rattle.lines.proofs.Named.{operation-reads-back}
 use Rattle.lines.proofs.Spelling.{all-bytes-line-of}
 use Rattle.heard.specs.Hearing.{bytesOf}
-use Rattle.heard.proofs.Hearing.{heard-front, hears-line}
+use Rattle.heard.proofs.Hearing.{bytes-back}
 use Rattle.spoken.specs.declared.Issued.{Issued}
 use Rattle.spoken.specs.declared.Issued.the-variants as issued
 use Rattle.spoken.specs.declared.Received.the-variants as received
@@ -48,14 +48,6 @@ use Rattle.spoken.proofs.Settling.{heard-bytes}
 use Rattle.spoken.proofs.Receiving.{picked}
 use Rattle.calls.proofs.Shaping.{one-byte, four-bytes}
 use Rattle.calls.proofs.ExactlyWhen.{exactly-when}
-
--- what is heard of the one spelling of bytes is these bytes
-bytes-back : (bs buffer : List ℕ) → AllBytes bs → length buffer ≡ 261 → length bs ≤ 261 → bytesOf (hexLine bs) ≡ bs
-bytes-back bs buffer h long few =
-    let whole = bs ++ drop (length bs) buffer in
-    let none : length bs - 0 ≡ length bs = omega arith in
-    sym (heard-front (hexLine bs) buffer long (length bs) whole (hears-line (hexLine bs) buffer long (Bytes (length bs)) whole (length bs) (sym (line-reads-back bs buffer h (omega (arith, long)))) refl))
-    ∙ rw none (take-at bs (drop (length bs) buffer) (length bs) refl)
 
 -- the fields of an issue line fit the bytes of a frame
 pub record Narrow (local : Local) : Type 0 where

@@ -1,28 +1,21 @@
 -- What the station program prints for a line.
-use mathlib.Core.List.{List, _++_}
-use Prim.Native.Nat.{ℕ}
+use mathlib.Core.Bool.{_&&_}
+use mathlib.Core.List.{List, [], _∷_, _++_}
+use Prim.Native.Nat.{ℕ, zero, suc}
 use lib.Dec.{eqb}
 use lib.ListN.{drop, length}
-use Rattle.layout.specs.Layout.{holdsTable}
+use Rattle.layout.specs.Layout.{holdsTable, tableOf}
 use Rattle.hexes.specs.Choice.{pick}
 use Rattle.hexes.specs.Hex.{hexLine}
-use Rattle.hexes.specs.Decoding.{lineType}
-use Rattle.hexes.specs.declared.LineType.{LineType}
-use Rattle.hexes.specs.declared.LineType.the-variants.{Is, Unknown}
 use Rattle.lines.specs.Types.{opening}
+use Rattle.lines.specs.Named.{printingRead}
+use Rattle.heard.specs.Hearing.{bytesOf, typeOf}
+use Rattle.forms.specs.Forms.{savedForm}
 use Rattle.telling.specs.Telling.{refusalBytes}
 use Rattle.spoken.specs.Spoken.{openedBy}
 use Rattle.answering.specs.Answering.{answerOn, changing, isType, openedBytes}
 use Rattle.calls.specs.declared.Answered.{Answered}
 use Rattle.calls.specs.declared.Answered.the-variants as answered
-
--- A line's type is its first two characters if they are lower-case hexadecimal digits; else it has none, and 0 is no type.
-abbrev pub byteOfType : LineType → ℕ
-byteOfType (Is byte) = byte
-byteOfType Unknown = 0
-
-unfoldable pub typeOf : List ℕ → ℕ
-typeOf line = byteOfType (lineType line)
 
 -- "A line before an accepted opening gets `ff0e`, unless it is itself of type `10`": the bytes of the answer, and the space afterwards.
 unfoldable pub answerOf : List ℕ → List ℕ → List ℕ × List ℕ
@@ -30,14 +23,26 @@ answerOf line words =
     pick (holdsTable words) (answerOn (typeOf line) line words)
     (isType (typeOf line) opening (changing openedBytes (openedBy line words)) (refusalBytes 14, words))
 
--- The answer's line at the front of the space for it: "Bytes of a space beyond a result stay."
-unfoldable pub printedIn : List ℕ → List ℕ × List ℕ → Answered × (List ℕ × List ℕ)
-printedIn out (bytes, words) =
-    (answered.Line (length (hexLine bytes)), (words, hexLine bytes ++ drop (length (hexLine bytes)) out))
+-- The output lines for an input line, each as its bytes: one, but "`60` prints the saved lines only".
+unfoldable pub linesFor : List ℕ → List ℕ → List (List ℕ)
+linesFor line words =
+    pick (holdsTable words && printingRead (bytesOf line)) (savedForm (tableOf words)) (answerOf line words .0 ∷ [])
 
--- The k-th output line for this input line, or the end: there is one.
+-- A line at the front of the space for it: "Bytes of a space beyond a result stay." Behind the last there is none.
+unfoldable pub printedAt : List (List ℕ) → ℕ → List ℕ → Answered × List ℕ
+printedAt [] place out = (answered.End, out)
+printedAt (bytes ∷ rest) zero out = (answered.Line (length (hexLine bytes)), hexLine bytes ++ drop (length (hexLine bytes)) out)
+printedAt (bytes ∷ rest) (suc place) out = printedAt rest place out
+
+-- The table space: the first output line is given when the input line is taken.
+unfoldable pub spaceAfter : List ℕ → ℕ → List ℕ → List ℕ
+spaceAfter line k words = pick (eqb k 0) (answerOf line words .1) words
+
+-- The k-th output line for this input line, or the end.
 unfoldable pub answeredBy : List ℕ → ℕ → List ℕ → List ℕ → Answered × (List ℕ × List ℕ)
-answeredBy line k words out = pick (eqb k 0) (printedIn out (answerOf line words)) (answered.End, (words, out))
+answeredBy line k words out =
+    let printed = printedAt (linesFor line words) k out in
+    (printed .0, (spaceAfter line k words, printed .1))
 
 -- The characters of the longest answer line: `00`, a count and 512 values, and LF.
 abbrev pub longestAnswer : ℕ

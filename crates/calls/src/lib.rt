@@ -1,13 +1,18 @@
 // The public calls over a lent table space and a lent line. Each tries its refusals in 01's order, and a refusal changes nothing.
 ghost use mathlib.Core.Path.{_≡_};
 ghost use Rattle.spoken.specs.Spoken.{openedBy};
+ghost use mathlib.Core.List.{[], _∷_};
 ghost use Prim.Native.Nat.{_≤_};
 ghost use lib.ListN.{length};
+ghost use Rattle.heard.specs.Hearing.{typeOf};
+ghost use Rattle.saving.specs.Saving.{savedBy};
+ghost use Rattle.telling.specs.Telling.{refusalBytes};
 ghost use Rattle.answering.specs.Answering.{frameRoom, toldAfter};
 ghost use Rattle.calls.specs.Calls.{fallen, issuedBy, receivedBy, repliedBy, settledBy};
-ghost use Rattle.calls.specs.Answers.{answeredBy, answerOf, longestAnswer, typeOf};
+ghost use Rattle.calls.specs.Answers.{answeredBy, answerOf, linesFor, longestAnswer, printedAt};
+ghost use Rattle.calls.specs.Told.{lineOrEnd};
 use asks::Reply;
-use hexes::LineType;
+use saving::Saved;
 use spoken::Issued;
 use spoken::Opened;
 use spoken::Received;
@@ -64,6 +69,16 @@ pub fn ask(space: &[u32], line: &[u8], out: &mut [u32]) -> Reply
     Reply::Refused(NO_TABLE)
 }
 
+// "saving 14, 1, 10": the line of the saved form at a place, from 0 on, goes into the lent space; the table is only looked at.
+pub fn save_line(space: &[u32], line: &[u8], k: usize, out: &mut [u8]) -> Saved
+    ensures { λ r. ⌜ (r, now (out .exit)) ≡ savedBy (now (line .entry)) (now (space .entry)) k (now (out .entry)) ⌝ }
+{
+    if rules::is_table(space) {
+        return saving::save_checked(space, line, k, out);
+    }
+    Saved::Refused(NO_TABLE)
+}
+
 // The characters of the longest answer line, LF included: a list of as many values as a table may have rows.
 pub const LONGEST_ANSWER: usize = 4103;
 
@@ -74,23 +89,10 @@ pub fn longest_answer() -> usize
     LONGEST_ANSWER
 }
 
-// A line that is not of a type: no type's byte.
-const NO_TYPE: u8 = 0;
-
 // What the station program answers: a line of so many characters, or nothing further.
 pub enum Answered {
     Line(usize),
     End,
-}
-
-// The type of a line, malformed ones included.
-fn type_of(line: &[u8]) -> u8
-    ensures { λ r. ⌜ r ≡ typeOf (now (line .entry)) ⌝ }
-{
-    match hexes::line_type(line) {
-        LineType::Is(byte) => byte,
-        LineType::Unknown => NO_TYPE,
-    }
 }
 
 // The one line that a line is answered with; before an accepted opening, 14 unless it is itself an opening.
@@ -98,7 +100,7 @@ fn answer_first(space: &mut [u32], line: &[u8], out: &mut [u8]) -> Written
     requires { ⌜ frameRoom ≤ length (now out) ⌝ }
     ensures { λ w. ⌜ (w, (now (space .exit), now (out .exit))) ≡ toldAfter (now (out .entry)) (answerOf (now (line .entry)) (now (space .entry))) ⌝ }
 {
-    let kind = type_of(line);
+    let kind = heard::type_of(line);
     if rules::is_table(space) {
         return answering::answer_line(space, line, kind, out);
     }
@@ -108,15 +110,48 @@ fn answer_first(space: &mut [u32], line: &[u8], out: &mut [u8]) -> Written
     printed::write_refusal(out, NO_TABLE)
 }
 
-// The k-th output line of the station program for an input line, from 0 on, or the end.
-pub fn answer(space: &mut [u32], line: &[u8], k: usize, out: &mut [u8; LONGEST_ANSWER]) -> Answered
-    ensures { λ r. ⌜ (r, (now (space .exit), now (out .exit))) ≡ answeredBy (now (line .entry)) k (now (space .entry)) (now (out .entry)) ⌝ }
+// A line that was written is the answer; none is too long for the space.
+fn line_or_end(w: Written) -> Answered
+    ensures { λ r. ⌜ r ≡ lineOrEnd w ⌝ }
+{
+    match w {
+        Written::Characters(n) => Answered::Line(n),
+        Written::TooShort => Answered::End,
+    }
+}
+
+// A refusal is one line.
+fn refuse_at(number: u32, k: usize, out: &mut [u8]) -> Answered
+    requires { ⌜ frameRoom ≤ length (now out) ⌝ }
+    ensures { λ r. ⌜ (r, now (out .exit)) ≡ printedAt (refusalBytes number ∷ []) k (now (out .entry)) ⌝ }
 {
     if 0 < k {
         return Answered::End;
     }
-    match answer_first(space, line, out) {
-        Written::Characters(n) => Answered::Line(n),
-        Written::TooShort => Answered::End,
+    line_or_end(printed::write_refusal(out, number))
+}
+
+// The k-th line for a line of type `60`: of the saved form, or of a refusal.
+fn answer_printing(space: &[u32], line: &[u8], k: usize, out: &mut [u8]) -> Answered
+    requires { ⌜ (typeOf (now line) ≡ 96) × (frameRoom ≤ length (now out)) ⌝ }
+    ensures { λ r. ⌜ (r, now (out .exit)) ≡ printedAt (linesFor (now (line .entry)) (now (space .entry))) k (now (out .entry)) ⌝ }
+{
+    match save_line(space, line, k, out) {
+        Saved::Line(n) => Answered::Line(n),
+        Saved::End => Answered::End,
+        Saved::Refused(number) => refuse_at(number, k, out),
     }
+}
+
+// The k-th output line of the station program for an input line, from 0 on, or the end.
+pub fn answer(space: &mut [u32], line: &[u8], k: usize, out: &mut [u8; LONGEST_ANSWER]) -> Answered
+    ensures { λ r. ⌜ (r, (now (space .exit), now (out .exit))) ≡ answeredBy (now (line .entry)) k (now (space .entry)) (now (out .entry)) ⌝ }
+{
+    if heard::type_of(line) == lines::PRINTING {
+        return answer_printing(space, line, k, out);
+    }
+    if k == 0 {
+        return line_or_end(answer_first(space, line, out));
+    }
+    Answered::End
 }

@@ -3,3 +3,4 @@ pub mod Forming
 pub mod ReadsBack
 pub mod Agreeing
 pub mod Lines
+pub mod Short

@@ -140,7 +140,7 @@ module _ (t : Table) (h : isTable t ≡ true) where
     abbrev vector : Vector
     vector = getD (t .last) k []
 
-    last-known : (length vector ≡ size) × Below 4294967296 vector
+    pub last-known : (length vector ≡ size) × Below 4294967296 vector
     unfolding lastRule zeros
     last-known = by (eqb k (t .header .own)) (F .last-rule k b)
       where
@@ -176,7 +176,7 @@ module _ (t : Table) (h : isTable t ≡ true) where
         code-low kind (r .operation .code) (and-left (codeAllowed kind (r .operation .code)) (getsRow kind (r .operation))
         (and-right (not (isCounter kind)) (codeAllowed kind (r .operation .code) && getsRow kind (r .operation)) (R .is-storable)))
 
-    row-known : (r .operation .sender < 16) × (length (r .operation .vector) ≤ size) × Below 4294967296 (r .operation .vector)
+    pub row-known : (r .operation .sender < 16) × (length (r .operation .vector) ≤ size) × Below 4294967296 (r .operation .vector)
     row-known = cases (r .settled)
         (λ q. let sender : r .operation .sender ≡ 0 = ap (λ (x : Row). x .operation .sender) (R .without-tag q) in
         let none : r .operation .vector ≡ [] = ap (λ (x : Row). x .operation .vector) (R .without-tag q) in

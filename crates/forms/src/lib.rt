@@ -31,7 +31,7 @@ pub enum Formed {
 }
 
 // The counter behind so many others: its object, or what is left of the number when all counters are passed.
-enum Sought {
+pub enum Sought {
     At(usize),
     Behind(usize),
 }
@@ -47,7 +47,7 @@ fn told(w: Written) -> Formed
 }
 
 // Which other station has so many other stations ahead of it: the own one is passed over.
-fn other(own: Station, ahead: u32) -> Station
+pub fn other(own: Station, ahead: u32) -> Station
     requires { ⌜ ahead + 1 < wordLimit ⌝ }
     ensures { λ r. ⌜ r .0 ≡ otherAt (own .0) ahead ⌝ }
 {
@@ -58,7 +58,7 @@ fn other(own: Station, ahead: u32) -> Station
 }
 
 // Which object is the counter that has so many counters ahead of it.
-fn counter(kinds: &[u32], ahead: usize) -> Sought
+pub fn counter(kinds: &[u32], ahead: usize) -> Sought
     ensures { λ r. ⌜ r ≡ counterAt (now (kinds .entry)) 0 ahead ⌝ }
 {
     let mut object = 0;

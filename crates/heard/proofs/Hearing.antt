@@ -8,12 +8,17 @@ use lib.ListN.{length, take, drop, length-append}
 use lib.Seq.{take-at}
 use Rattle.meaning.proofs.Tests.{cases}
 use Rattle.hexes.specs.Choice.{pick}
-use Rattle.hexes.specs.Decoding.{decoded, isLine, pairs}
+use Rattle.hexes.specs.Hex.{hexLine}
+use Rattle.hexes.specs.Numbers.{AllBytes}
+use Rattle.hexes.proofs.Spelling.{line-reads-back}
+use Rattle.hexes.specs.Decoding.{decoded, isLine, lineType, pairs}
+use Rattle.hexes.specs.declared.LineType.{LineType}
+use Rattle.hexes.specs.declared.LineType.the-variants.{Is, Unknown}
 use Rattle.hexes.specs.declared.Decoded.{Decoded}
 use Rattle.hexes.specs.declared.Decoded.the-variants.{Bytes, Malformed}
 use Rattle.lines.specs.declared.Opening.{Opening}
 use Rattle.lines.specs.Named.{openingRead}
-use Rattle.heard.specs.Hearing.{bytesOf, heardIn}
+use Rattle.heard.specs.Hearing.{byteOfType, bytesOf, heardIn, typeOf}
 
 abbrev bytesIn : Decoded → ℕ
 bytesIn (Bytes n) = n
@@ -66,3 +71,20 @@ reads-heard read line buffer n x r long e f = f ∙ ap read (heard-front line bu
 
 pub opening-heard : (line buffer : List ℕ) (n : ℕ) (x : List ℕ) (r : Opening) → length buffer ≡ 261 → (n, x) ≡ heardIn line buffer → r ≡ openingRead (take (n - 0) x) → r .ok ≡ openingRead (bytesOf line) .ok
 opening-heard line buffer n x r long e f = ap (λ (o : Opening). o .ok) (reads-heard openingRead line buffer n x r long e f)
+
+-- the type of a line
+pub type-known : (line : List ℕ) (t : LineType) → t ≡ lineType line → (byte : ℕ) → t ≡ Is byte → byte ≡ typeOf line
+unfolding typeOf
+type-known line t e byte h = ap byteOfType (sym h ∙ e)
+
+pub type-unknown : (line : List ℕ) (t : LineType) → t ≡ lineType line → t ≡ Unknown → 0 ≡ typeOf line
+unfolding typeOf
+type-unknown line t e h = ap byteOfType (sym h ∙ e)
+
+-- what is heard of the one spelling of bytes is these bytes
+pub bytes-back : (bs buffer : List ℕ) → AllBytes bs → length buffer ≡ 261 → length bs ≤ 261 → bytesOf (hexLine bs) ≡ bs
+bytes-back bs buffer h long few =
+    let whole = bs ++ drop (length bs) buffer in
+    let none : length bs - 0 ≡ length bs = omega arith in
+    sym (heard-front (hexLine bs) buffer long (length bs) whole (hears-line (hexLine bs) buffer long (Bytes (length bs)) whole (length bs) (sym (line-reads-back bs buffer h (omega (arith, long)))) refl))
+    ∙ rw none (take-at bs (drop (length bs) buffer) (length bs) refl)

@@ -2,8 +2,12 @@
 ghost use mathlib.Core.Path.{_≡_};
 ghost use Rattle.hexes.specs.Decoding.{decoded};
 ghost use Rattle.lines.specs.Named.{issueRead, openingRead, operationRead, printingRead, questionRead, settlingRead};
-ghost use Rattle.heard.specs.Hearing.{bytesOf, heardIn};
+ghost use Rattle.heard.specs.Hearing.{bytesOf, heardIn, typeOf};
 use hexes::Decoded;
+use hexes::LineType;
+
+// A line that is not of a type: no type's byte.
+const NO_TYPE: u8 = 0;
 
 // Reads a line into a buffer; how many bytes it has, and none where it is no line.
 pub fn hear(line: &[u8], into: &mut [u8; lines::LONGEST]) -> usize
@@ -63,4 +67,14 @@ pub fn printing(line: &[u8]) -> bool
     let mut bytes = [0u8; lines::LONGEST];
     let n = hear(line, &mut bytes);
     lines::read_printing(&bytes[0..n])
+}
+
+// The type of a line, malformed ones included.
+pub fn type_of(line: &[u8]) -> u8
+    ensures { λ r. ⌜ r ≡ typeOf (now (line .entry)) ⌝ }
+{
+    match hexes::line_type(line) {
+        LineType::Is(byte) => byte,
+        LineType::Unknown => NO_TYPE,
+    }
 }

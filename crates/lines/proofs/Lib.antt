@@ -5,3 +5,4 @@ pub mod Taken
 pub mod Named
 pub mod Longest
 pub mod Eight
+pub mod Lengths

@@ -1,11 +1,11 @@
 -- How long an answer's line is at most: that of a list of as many values as a table may have rows.
-use mathlib.Core.Path.{_≡_, refl, ap, _∙_}
+use mathlib.Core.Path.{_≡_, refl}
 use mathlib.Core.Bool.{Bool, true, false, not, cond}
 use mathlib.Core.List.{List, [], _∷_}
 use Prim.Native.Nat.{ℕ, _+_, _*_, _≤_}
 use native.Mathlib.Omega.{arith}
 use lib.Dec.{eqb}
-use lib.ListN.{length, length-append}
+use lib.ListN.{length}
 use Rattle.meaning.specs.Table.{kindIn}
 use Rattle.meaning.specs.Questions as question
 use Rattle.meaning.specs.Questions.{Asked, Source, byRows, answerFrom, fits}
@@ -14,20 +14,12 @@ use Rattle.meaning.specs.Calls as meaning
 use Rattle.meaning.specs.Calls.{ask, askOf, replyOf}
 use Rattle.layout.specs.Layout.{tableOf, totalWords}
 use Rattle.checked.specs.Checked.{Checked}
-use Rattle.shapes.specs.Shapes.{lengthOf, written}
-use Rattle.shapes.proofs.Spelling.{length-written}
-use Rattle.writing.specs.Writing.{lineBytes, writtenEach}
-use Rattle.writing.proofs.Laying.{length-written-each}
-use Rattle.lines.specs.Types.{Line, count, flag, headOf, lineOf, refused, sum}
+use Rattle.shapes.specs.Shapes.{lengthOf}
+use Rattle.lines.specs.Types.{count, flag, refused, sum}
+use Rattle.lines.proofs.Lengths.{line-length}
 use Rattle.telling.specs.Telling.{listBytes, refusalBytes, replyBytes}
 use Rattle.telling.proofs.Listed.{values-few}
 use Rattle.telling.proofs.Told.{answer, chain}
-
-pub line-length : (line : Line) (fields more : List ℕ) → length fields ≡ length (line .widths) → length (lineOf line fields more) ≡ lengthOf (headOf line) + line .each * length more
-unfolding lineBytes
-line-length line fields more e =
-    length-append (written (headOf line) (line .typeByte ∷ fields)) (writtenEach (line .each) more)
-    ∙ rw (length-written (headOf line) (line .typeByte ∷ fields) (omega arith), length-written-each (line .each) more) refl
 
 pub refusal-long : (number : ℕ) → length (refusalBytes number) ≡ 2
 unfolding refusalBytes lengthOf

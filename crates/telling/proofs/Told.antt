@@ -113,7 +113,8 @@ module _ (s : List ℕ) (K : Checked s) (object asking value : ℕ) where
   abbrev long : ℕ → Bool
   long room = listTooLong (byRows t) room asked
 
-  never-long : long 512 ≡ false
+  -- a line has room for every list
+  pub never-long : long 512 ≡ false
   unfolding listTooLong
   never-long = cases (eqb asking 3)
       (λ q. rw q (le-ltb 512 (length (listed s object)) (values-few s K object)))

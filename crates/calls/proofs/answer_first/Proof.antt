@@ -8,7 +8,7 @@ use Rattle.calls.proofs.answer_first.Reads as reads
 use Rattle.calls.proofs.answer_first.Lts as lts
 use Rattle.answering.proofs.answer_line.Reads as answer-line-reads
 use Rattle.answering.proofs.tell_opened.Reads as tell-opened-reads
-use Rattle.calls.proofs.type_of.Reads as type-of-reads
+use Rattle.heard.proofs.type_of.Reads as type-of-reads
 use Rattle.printed.proofs.write_refusal.Reads as write-refusal-reads
 use Rattle.rules.proofs.is_table.Reads as is-table-reads
 use Rattle.spoken.proofs.open_line.Reads as open-line-reads

@@ -1,10 +1,10 @@
-use Rattle.calls.proofs.Answering.{type-known, type-unknown}
+use Rattle.heard.proofs.Hearing.{type-known, type-unknown}
 use native.Mathlib.Omega.{arith}
 use borrow.Author.Needs.{needs}
-use Rattle.calls.proofs.type_of.Statement.{statement}
-use Rattle.calls.proofs.type_of.Tie as tie
-use Rattle.calls.proofs.type_of.Reads as reads
-use Rattle.calls.proofs.type_of.Lts as lts
+use Rattle.heard.proofs.type_of.Statement.{statement}
+use Rattle.heard.proofs.type_of.Tie as tie
+use Rattle.heard.proofs.type_of.Reads as reads
+use Rattle.heard.proofs.type_of.Lts as lts
 use Rattle.hexes.proofs.line_type.Reads as line-type-reads
 
 line-type-requires : tie.Need-line-type-requires

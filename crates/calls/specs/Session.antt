@@ -1,0 +1,114 @@
+-- The definitions computed: 01's session up to its `60`, and the lines that it has none of.
+use mathlib.Core.Path.{_≡_, refl}
+use mathlib.Core.List.{List, [], _∷_, _++_, map}
+use Prim.Native.Nat.{ℕ}
+use Prim.Native.Char.{code}
+use Prim.Native.String.{String, [] as end, _∷_ as _then_}
+use Rattle.meaning.specs.Table.{zeros}
+use Rattle.meaning.specs.Computing.{allWords}
+use Rattle.meaning.specs.Papers.{sessionSaved}
+use Rattle.layout.specs.Words.{complement, ofComplement}
+use Rattle.layout.specs.Layout.{holdsTable, isSpelt, rewritten, spaceFor, tableOf, wordsOf}
+use Rattle.hexes.specs.Hex.{digitOf, digitsOf, hexLine, isDigit, lf, valueOf}
+use Rattle.hexes.specs.Numbers.{bigEndian, numberFrom}
+use Rattle.hexes.specs.Decoding.{isLine, justLf, pairOf, pairs}
+use Rattle.shapes.specs.Shapes.{lengthOf, read, written}
+use Rattle.shapes.specs.Reading.{entries, fieldsRead, hasShape, padded, startsWith}
+use Rattle.writing.specs.Writing.{lineBytes, writtenEach}
+use Rattle.lines.specs.Types.{isOf, lineRead}
+use Rattle.lines.specs.Named.{issueRead, openingRead, operationRead, questionRead, settlingRead}
+use Rattle.heard.specs.Hearing.{bytesOf}
+use Rattle.telling.specs.Telling.{listBytes, refusalBytes, replyBytes}
+use Rattle.spoken.specs.Spoken.{frameBytes, frameOf, headerRead, localOf, openedAs, openedBy, receivedAs, receivedOn, settledAs, settledOn}
+use Rattle.answering.specs.Answering.{answerOn, doneBytes, issueAnswer, issuedBytes, openedBytes, questionAnswer, receivedBytes, secondOpening, settledBytes}
+use Rattle.heard.specs.Hearing.{typeOf}
+use Rattle.calls.specs.Answers.{answerOf}
+use Rattle.calls.specs.Lines.{linesAfter}
+
+-- The characters of a text, and its line.
+unfoldable pub characters : String → List ℕ
+characters end = []
+characters (first then rest) = code first ∷ characters rest
+
+unfoldable pub lineSaying : String → List ℕ
+lineSaying text = characters text ++ (lf ∷ [])
+
+-- What is printed for these lines, given one after the other, the first first.
+unfoldable pub printedFor : List (List ℕ) → List ℕ → List (List ℕ)
+printedFor [] words = []
+printedFor (line ∷ rest) words = hexLine (answerOf line words .0) ∷ printedFor rest (answerOf line words .1)
+
+-- A space of just the words of the session's table.
+abbrev pub space : List ℕ
+space = zeros (spaceFor 2 4)
+
+-- A line, and the line that is printed for it.
+pub record Exchange : Type 0 where
+  pub given : List ℕ
+  pub printed : List ℕ
+
+infix 4 _gets_
+abbrev pub _gets_ : List ℕ → String → Exchange
+line gets answer = record { given = line; printed = lineSaying answer }
+
+-- Given one after the other to that space, each line gets its answer.
+abbrev pub Right : List Exchange → Type 0
+Right exchanges = printedFor (map (λ e. e .given) exchanges) space ≡ map (λ e. e .printed) exchanges
+
+-- "The whole of one session, input then output".
+abbrev pub wholeSession : List Exchange
+wholeSession =
+    (lineSaying "10020000040108" gets "00")
+    ∷ (lineSaying "21000100000007" gets "002002000001000000070000000100000000")
+    ∷ (lineSaying "2002010001000000070000000000000001" gets "00")
+    ∷ (lineSaying "40000400000000" gets "000001")
+    ∷ (lineSaying "2002010002000000070000000000000002" gets "00")
+    ∷ (lineSaying "40000300000000" gets "00000100000007")
+    ∷ (lineSaying "30000a" gets "000000")
+    ∷ (lineSaying "2002010002000000070000000000000002" gets "ff05")
+    ∷ []
+
+-- Before an accepted opening: "A line before an accepted opening gets `ff0e`, unless it is itself of type `10`". The third has half a byte, the fourth
+-- no kind, the fifth a group of 17, the sixth a table for which the space is too small, the last a capital digit.
+abbrev pub beforeOpening : List Exchange
+beforeOpening =
+    (lineSaying "40000400000000" gets "ff0e")
+    ∷ (lineSaying "" gets "ff0e")
+    ∷ (lineSaying "1002000004010" gets "ff01")
+    ∷ (lineSaying "100200000401" gets "ff01")
+    ∷ (lineSaying "10110000040108" gets "ff0d")
+    ∷ (lineSaying "10020000050108" gets "ff0d")
+    ∷ (lineSaying "1002000004010A" gets "ff01")
+    ∷ (characters "10020000040108" gets "ff01")
+    ∷ (characters "4" gets "ff0e")
+    ∷ []
+
+-- At a table: "a second opening gets `ff0d`", of its right shape; "Lines of type `50` to `5f` are of unknown type here (1)"; and what is no line gets 1.
+abbrev pub atTable : List Exchange
+atTable =
+    (lineSaying "10020000040108" gets "00")
+    ∷ (lineSaying "10020000040108" gets "ff0d")
+    ∷ (lineSaying "10110000040108" gets "ff0d")
+    ∷ (lineSaying "100200000401" gets "ff01")
+    ∷ (lineSaying "500000000000000000" gets "ff01")
+    ∷ (lineSaying "5f0000" gets "ff01")
+    ∷ (lineSaying "" gets "ff01")
+    ∷ (lineSaying "2100010000000A" gets "ff01")
+    ∷ (characters "40000400000000" gets "ff01")
+    ∷ (lineSaying "40000400000000" gets "000000")
+    ∷ []
+
+-- The session, and the table that its `60` prints: `forms`' `session-form` has the lines of that.
+pub record Session : Type 0 where
+  pub whole-session : Right wholeSession
+  pub ends-with : linesAfter (map (λ (e : Exchange). e .given) wholeSession) space ≡ wordsOf sessionSaved
+  pub before-opening : Right beforeOpening
+  pub at-table : Right atTable
+
+pub session : Session
+unfolding allWords complement ofComplement holdsTable isSpelt rewritten tableOf wordsOf digitOf digitsOf hexLine isDigit valueOf bigEndian numberFrom isLine justLf
+    pairOf pairs lengthOf read written entries fieldsRead hasShape padded startsWith lineBytes writtenEach isOf lineRead issueRead openingRead operationRead
+    questionRead settlingRead bytesOf listBytes refusalBytes replyBytes frameBytes frameOf headerRead localOf openedAs openedBy receivedAs receivedOn settledAs
+    settledOn answerOn doneBytes issueAnswer issuedBytes openedBytes questionAnswer receivedBytes secondOpening settledBytes answerOf typeOf characters
+    lineSaying printedFor linesAfter
+session = record { whole-session = refl; ends-with = refl; before-opening = refl; at-table = refl }

@@ -1,0 +1,236 @@
+-- The lines of a form ahead of its rows, given to the space that its opening line left.
+use mathlib.Core.Path.{_≡_, refl, sym, ap, ap₂, _∙_, subst}
+use mathlib.Core.Bool.{Bool, true, false, not, _&&_, cond, false≢true}
+use mathlib.Core.List.{List, [], _∷_, _++_, map}
+use Prim.Native.Nat.{ℕ, zero, suc, _+_, _-_, _*_, _≤_, _<_}
+use native.Mathlib.Omega.{arith}
+use lib.Dec.{eqb, leb, ltb}
+use lib.IntN.{ℤ, pos}
+use lib.ListN.{getD, length, take, drop, set, replicate, length-replicate, getD-replicate, drop-of-length-le}
+use lib.Seq.{drop-cons}
+use borrow.Author.Tests.{eq-eqb, eqb-true, eqb-false, ne-eqb, le-leb, lt-leb, lt-ltb, le-ltb, leb-true, leb-false}
+use Rattle.meaning.specs.Order.{Vector, atMost, same}
+use Rattle.meaning.specs.Operations.{isCounter}
+use Rattle.meaning.specs.Rows.{Row}
+use Rattle.meaning.specs.Table.{Header, Table, isTable, kindIn, lastRule, totalRule, totalBound, opened, zeros}
+use Rattle.meaning.proofs.Tests.{cases, and-left, and-right}
+use Rattle.meaning.proofs.Vectors.{same-eq}
+use Rattle.meaning.proofs.TableFacts.{Facts, HeaderFacts, facts, header-facts}
+use Rattle.layout.specs.Layout.{totalWords}
+use Rattle.layout.proofs.Pieces.{Each, Wide}
+use Rattle.layout.proofs.RowWords.{Shaped}
+use Rattle.layout.proofs.Reading.{InRange, Well}
+use Rattle.arrivals.proofs.Kept.{well-table}
+use Rattle.clockrules.specs.ClockTests.{lastKept, totalKept}
+use Rattle.hexes.specs.Choice.{pick}
+use Rattle.hexes.specs.Hex.{hexLine}
+use Rattle.hexes.specs.Numbers.{AllBytes}
+use Rattle.lines.specs.Types.{clock, lastVector, total}
+use Rattle.lines.proofs.Spelling.{all-bytes-line-of}
+use Rattle.heard.specs.Hearing.{bytesOf}
+use Rattle.heard.proofs.Hearing.{bytes-back}
+use Rattle.saved.specs.Named.{clockRead, lastRead, totalRead}
+use Rattle.formlines.specs.FormLines.{clockLine, lastLine, totalLine}
+use Rattle.forms.specs.Forms.{linesOf, lastLines, totalLines}
+use Rattle.forms.specs.Seeking.{counterAt, otherAt}
+use Rattle.forms.specs.declared.Sought.the-variants as sought
+use Rattle.forms.proofs.Short.{clock-short, last-short, total-short}
+use Rattle.forms.proofs.ReadsBack.{clock-back, last-back, last-known, total-back}
+use Rattle.loading.specs.declared.Next.{Next}
+use Rattle.loading.specs.declared.Next.the-variants as next
+use Rattle.loading.specs.declared.Loaded.the-variants as loaded
+use Rattle.loading.specs.Loading.{behindLasts, loadedBy, nextAfter}
+use Rattle.restoring.specs.Restoring.{takesAll}
+use Rattle.restoring.proofs.Under.{Fresh, under}
+use Rattle.restoring.proofs.Steps.{clock-step, last-step, total-step}
+use Rattle.restoring.proofs.Mixed.{mixed, mixed-set, mixed-same, mixed-whole, length-mixed, each-mixed, first-taken}
+
+-- the lines are bytes
+clock-bytes : (v : Vector) → AllBytes (clockLine v)
+unfolding clockLine
+clock-bytes v = all-bytes-line-of clock [] v
+
+last-bytes : (k : ℕ) (v : Vector) → AllBytes (lastLine k v)
+unfolding lastLine
+last-bytes k v = all-bytes-line-of lastVector (k ∷ []) v
+
+total-bytes : (o : ℕ) (z : ℤ) → AllBytes (totalLine o z)
+unfolding totalLine
+total-bytes o z = all-bytes-line-of total (o ∷ totalWords z) []
+
+wide-each : (n : ℕ) (l : List Vector) → Each (λ (v : Vector). length v ≡ n) l → Wide n l
+wide-each n [] e = tt
+wide-each n (v ∷ l) e = (e .0, wide-each n l (e .1))
+
+each-wide : (n : ℕ) (l : List Vector) → Wide n l → Each (λ (v : Vector). length v ≡ n) l
+each-wide n [] e = tt
+each-wide n (v ∷ l) e = (e .0, each-wide n l (e .1))
+
+each-replicate : {A : Type 0} (P : A → Type 0) (n : ℕ) (x : A) → P x → Each P (replicate n x)
+each-replicate P zero x h = tt
+each-replicate P (suc n) x h = (h, each-replicate P n x h)
+
+-- how many other stations are before one
+abbrev others : ℕ → ℕ → ℕ
+others own k = cond (leb k own) k (k - 1)
+
+other-back : (own k : ℕ) → (k ≡ own → ⊥) → otherAt own (others own k) ≡ k
+unfolding otherAt
+other-back own k n = cases (leb k own)
+    (λ e. let less : k < own = omega (arith, leb-true k own e, n) in rw (e, lt-ltb k own less) refl)
+    (λ e. let more : own < k = leb-false k own e in let last : suc (k - 1) ≡ k = omega arith in rw (e, le-ltb (k - 1) own (omega arith)) last)
+
+module _ (t : Table) (is : isTable t ≡ true) (rest : List ℕ) where
+  F : Facts t
+  F = facts t is
+
+  H : HeaderFacts (t .header)
+  H = header-facts (t .header) (F .header-in-range)
+
+  W : Well t
+  W = well-table t is
+
+  abbrev size : ℕ
+  size = t .header .size
+
+  abbrev own : ℕ
+  own = t .header .own
+
+  abbrev kinds : List ℕ
+  kinds = t .header .kinds
+
+  abbrev no-last : List Vector
+  no-last = replicate size (zeros size)
+
+  abbrev no-totals : List ℤ
+  no-totals = replicate (length kinds) (pos 0)
+
+  -- a table with this header
+  abbrev pub parts : Vector → List Vector → List ℤ → List Row → Table
+  parts clock last totals rows = record { header = t .header; clock = clock; last = last; totals = totals; rows = rows }
+
+  pub fresh-parts : (clock : Vector) (last : List Vector) (totals : List ℤ) (rows : List Row) → length clock ≡ size → Each (λ (v : Vector). length v ≡ size) last → length last ≡ size → length totals ≡ length kinds → Each InRange totals → Each (Shaped size) rows → length rows ≤ t .header .capacity → Fresh (parts clock last totals rows)
+  fresh-parts clock last totals rows c l n m r s k =
+      record {
+        well = record {
+          fit = record { few-kinds = H .objects-range .1; few-totals = omega (arith, H .objects-range .1); clock-long = c; last-wide = wide-each size last l; last-many = n };
+          one = m;
+          range = r;
+          shape = s;
+        };
+        sized = record { some = H .size-range .0; few = H .size-range .1; small = H .capacity-range .1; within = k };
+        ranged = F .header-in-range;
+      }
+
+  zeros-long : length (zeros size) ≡ size
+  unfolding zeros
+  zeros-long = length-replicate size 0
+
+  lasts-long : Each (λ (v : Vector). length v ≡ size) (t .last)
+  lasts-long = each-wide size (t .last) (W .fit .last-wide)
+
+  no-last-long : Each (λ (v : Vector). length v ≡ size) no-last
+  no-last-long = each-replicate (λ (v : Vector). length v ≡ size) size (zeros size) zeros-long
+
+  no-last-many : length no-last ≡ size
+  no-last-many = length-replicate size (zeros size)
+
+  no-totals-many : length no-totals ≡ length kinds
+  no-totals-many = length-replicate (length kinds) (pos 0)
+
+  no-totals-range : Each InRange no-totals
+  no-totals-range = each-replicate InRange (length kinds) (pos 0) (omega arith)
+
+  -- the states of a load, by what is there
+  abbrev lasts-at : ℕ → Table
+  lasts-at k = parts (t .clock) (mixed k (t .last) no-last) no-totals []
+
+  abbrev totals-at : ℕ → Table
+  totals-at k = parts (t .clock) (t .last) (mixed k (t .totals) no-totals) []
+
+  fresh-lasts : (k : ℕ) → Fresh (lasts-at k)
+  fresh-lasts k = fresh-parts (t .clock) (mixed k (t .last) no-last) no-totals [] (F .clock-length)
+      (each-mixed (λ (v : Vector). length v ≡ size) (t .last) no-last k (F .last-length ∙ sym no-last-many) lasts-long no-last-long)
+      (length-mixed (t .last) no-last k (F .last-length ∙ sym no-last-many) ∙ no-last-many) no-totals-many no-totals-range tt (omega arith)
+
+  pub fresh-totals : (k : ℕ) → Fresh (totals-at k)
+  fresh-totals k = fresh-parts (t .clock) (t .last) (mixed k (t .totals) no-totals) [] (F .clock-length) lasts-long (F .last-length)
+      (length-mixed (t .totals) no-totals k (F .totals-length ∙ sym no-totals-many) ∙ no-totals-many)
+      (each-mixed InRange (t .totals) no-totals k (F .totals-length ∙ sym no-totals-many) (W .range) no-totals-range) tt (omega arith)
+
+  pub fresh-opened : Fresh (opened (t .header))
+  unfolding opened
+  fresh-opened = fresh-parts (zeros size) no-last no-totals [] zeros-long no-last-long no-last-many no-totals-many no-totals-range tt (omega arith)
+
+  -- `50`
+  pub clock-taken : loadedBy (hexLine (clockLine (t .clock))) (under 1 (opened (t .header)) rest) ≡ (loaded.Taken, under 2 (lasts-at 0) rest)
+  unfolding opened nextAfter
+  clock-taken = clock-step (opened (t .header)) fresh-opened rest 1 (hexLine (clockLine (t .clock))) refl refl (t .clock) (F .clock-length) (ap (clockRead size) heard ∙ clock-back t is)
+    where
+      heard : bytesOf (hexLine (clockLine (t .clock))) ≡ clockLine (t .clock)
+      heard = bytes-back (clockLine (t .clock)) (replicate 261 0) (clock-bytes (t .clock)) (length-replicate {A = ℕ} 261 0) (omega (arith, clock-short t is))
+
+  -- `51`, for each other station from one on
+  abbrev not-own : ℕ → Bool
+  not-own station = not (eqb station own)
+
+  next-last : (k : ℕ) → k < size → (k ≡ own → ⊥) → nextAfter size own kinds (suc (suc (others own k))) ≡ next.Last (record { 0 = k })
+  unfolding nextAfter
+  next-last k b n =
+      let few : suc (suc (others own k)) ≤ size = cases (leb k own) (λ e. rw e (omega (arith, H .own-in, leb-true k own e, n))) (λ e. rw e (omega (arith, leb-false k own e))) in
+      let back : suc (suc (others own k)) - 2 ≡ others own k = omega arith in
+      rw (ne-eqb (suc (suc (others own k))) 0 (λ z. omega (arith, z)), ne-eqb (suc (suc (others own k))) 1 (λ z. omega (arith, z)), le-leb (suc (suc (others own k))) size few, back, other-back own k n) refl
+
+  last-held : (k : ℕ) → k < size → (k ≡ own → ⊥) → lastKept own (t .clock) k (getD (t .last) k []) ≡ true
+  unfolding lastKept lastRule
+  last-held k b n =
+      let v = getD (t .last) k [] in
+      let long = eqb (length v) size in
+      let below = atMost v (t .clock) in
+      let known = eqb (getD v k 0) (getD (t .clock) k 0) in
+      let rule : (long && (below && known)) ≡ true = rw (ne-eqb k own n) at (F .last-rule k b) in
+      let both = and-right long (below && known) rule in
+      rw (ne-eqb k own n, and-right below known both) (and-left below known both)
+
+  own-none : getD (t .last) own [] ≡ getD no-last own []
+  unfolding lastRule
+  own-none =
+      let rule : same (getD (t .last) own []) (zeros size) ≡ true = rw (eq-eqb own own refl) at (F .last-rule own (F .own-in)) in
+      same-eq (getD (t .last) own []) (zeros size) rule ∙ sym (getD-replicate size own (zeros size) [] (F .own-in))
+
+  abbrev behind-lasts : List ℕ
+  behind-lasts = under (suc size) (totals-at 0) rest
+
+  lasts-done : (k : ℕ) → k ≡ size → under (suc (suc (others own k))) (lasts-at k) rest ≡ behind-lasts
+  lasts-done k e =
+      let many : suc (suc (others own size)) ≡ suc size = rw (lt-leb size own (H .own-in)) (omega (arith, H .size-range .0)) in
+      rw (e, mixed-whole (t .last) no-last size (F .last-length) no-last-many, many) refl
+
+  lasts-from : (n k : ℕ) → k + n ≡ size → takesAll (map hexLine (linesOf not-own lastLine k (drop k (t .last)))) (under (suc (suc (others own k))) (lasts-at k) rest) behind-lasts
+  lasts-from zero k e =
+      let done : k ≡ size = omega arith in
+      rw (drop-of-length-le (t .last) {i = k} (omega (arith, F .last-length))) (lasts-done k done)
+  lasts-from (suc n) k e =
+      let b : k < size = omega arith in
+      let here : k < length (t .last) = omega (arith, F .last-length) in
+      let there : k < length no-last = omega (arith, no-last-many) in
+      rw (drop-cons (t .last) k [] here) (cases (eqb k own)
+      (λ q. let same-k : k ≡ own = eqb-true k own q in
+      let number : others own (suc k) ≡ others own k = rw same-k (rw (le-leb own own (omega arith), lt-leb (suc own) own (omega arith)) (omega arith)) in
+      let table : mixed k (t .last) no-last ≡ mixed (suc k) (t .last) no-last = mixed-same (t .last) no-last [] k here there (rw same-k own-none) in
+      rw q (subst (λ (w : List ℕ). takesAll (map hexLine (linesOf not-own lastLine (suc k) (drop (suc k) (t .last)))) w behind-lasts)
+      (ap₂ (λ (i : ℕ) (l : List Vector). under (suc (suc i)) (parts (t .clock) l no-totals []) rest) number (sym table))
+      (lasts-from n (suc k) (omega arith))))
+      (λ q. let other : k ≡ own → ⊥ = eqb-false k own q in
+      let number : others own (suc k) ≡ suc (others own k) = cases (leb k own) (λ s. let less : k < own = omega (arith, leb-true k own s, other) in rw (s, le-leb (suc k) own less) refl) (λ s. let more = leb-false k own s in rw (s, lt-leb (suc k) own (omega arith)) (omega arith)) in
+      let v = getD (t .last) k [] in
+      let line = hexLine (lastLine k v) in
+      let heard : bytesOf line ≡ lastLine k v = bytes-back (lastLine k v) (replicate 261 0) (last-bytes k v) (length-replicate {A = ℕ} 261 0) (omega (arith, last-short t is k b)) in
+      let step = last-step (lasts-at k) (fresh-lasts k) rest (suc (suc (others own k))) line refl k b (next-last k b other) v (last-known t is k b .0) (last-held k b other) (ap (lastRead size) heard ∙ last-back t is k b) in
+      rw q (first-taken line (map hexLine (linesOf not-own lastLine (suc k) (drop (suc k) (t .last)))) (under (suc (suc (others own k))) (lasts-at k) rest) (under (suc (suc (others own (suc k)))) (lasts-at (suc k)) rest) behind-lasts
+      (step ∙ ap₂ (λ (i : ℕ) (l : List Vector). (loaded.Taken, under (suc (suc i)) (parts (t .clock) l no-totals []) rest)) (sym number) (mixed-set (t .last) no-last [] k here there))
+      (lasts-from n (suc k) (omega arith)))))
+
+  pub lasts-taken : takesAll (map hexLine (lastLines t)) (under 2 (lasts-at 0) rest) behind-lasts
+  unfolding lastLines
+  lasts-taken = let none : others own 0 ≡ 0 = rw (le-leb 0 own (omega arith)) refl in (rw none at (lasts-from size 0 (omega arith)))
