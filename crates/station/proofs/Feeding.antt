@@ -18,10 +18,10 @@ use Rattle.hexes.specs.declared.Decoded.the-variants.{Bytes, Malformed}
 use Rattle.hexes.proofs.Keeping.{kept-decoded, kept-is-cut}
 use Rattle.hexes.proofs.Spelling.{cut-type}
 use Rattle.ranges.specs.Spaces.{mostWords}
-use Rattle.heard.specs.Hearing.{bytesOf}
+use Rattle.heard.specs.Hearing.{bytesOf, byteOfType, typeOf}
 use Rattle.calls.specs.declared.Answered.{Answered}
 use Rattle.calls.specs.declared.Answered.the-variants.{Line, End}
-use Rattle.calls.specs.Answers.{answeredBy, byteOfType, longestAnswer, typeOf}
+use Rattle.calls.specs.Answers.{answeredBy, longestAnswer}
 use Rattle.station.specs.declared.More.{More}
 use Rattle.station.specs.declared.More.the-variants as more
 use Rattle.station.specs.Replying.{HasRoom, Held, mostLines, orEnd, pushed, replied, repliedFrom}
