@@ -62,7 +62,7 @@ module _ (line words out : List ℕ) (kind : ℕ) (k : kind ≡ typeOf line) (b 
     first-none n w y p = told out (refusalBytes 14) words (answerOf line words) (sym before ∙ rw (ne-eqb kind 16 n) refl) w y words p refl
 
 -- every answer's line has room
-answer-fits : (line words : List ℕ) → length (answerOf line words .0) ≤ 2051
+pub answer-fits : (line words : List ℕ) → length (answerOf line words .0) ≤ 2051
 unfolding answerOf
 answer-fits line words = by (holdsTable words) (λ h. answer-short words (checked words h) (typeOf line) line)
   where

@@ -4,3 +4,4 @@ pub mod ReadsBack
 pub mod Agreeing
 pub mod Lines
 pub mod Short
+pub mod Count

@@ -1,0 +1,2 @@
+pub mod Replying
+pub mod Feeding
