@@ -200,7 +200,7 @@ module _ (s : List ℕ) (u : underLoad s ≡ true) where
   unfolding underLoad
   load-head = head-facts s (and-left (headLoads s) (loadWaits s) u)
 
-  load-waits : waits (nextIn s) (countIn s) ≡ true
+  pub load-waits : waits (nextIn s) (countIn s) ≡ true
   unfolding underLoad loadWaits
   load-waits = and-right (every (between 1 9) (kindsIn s)) (waits (nextIn s) (countIn s)) (and-right (headLoads s) (loadWaits s) u)
 

@@ -25,7 +25,7 @@ use Rattle.rowrules.specs.RowTests.{contentKept, follows, numberKept, rowKept, 
 use Rattle.clockrules.specs.ClockTests.{lastKept, totalKept}
 use Rattle.layout.specs.Layout.{holdsTable, isSpelt, rewritten, tableOf, wordsOf}
 use Rattle.layout.specs.Words.{complement, ofComplement}
-use Rattle.taking.specs.Taking.{clockTaken, closed, joined, joins, lastRow, lastTaken, rowOrClosing, rowSaid, rowTaken, spoilt, took, totalTaken}
+use Rattle.taking.specs.Taking.{clockTaken, closed, finished, joined, joins, lastRow, lastTaken, rowOrClosing, rowSaid, rowTaken, spoilt, took, totalTaken}
 use Rattle.loading.specs.Loading.{begun, behindLasts, firstTaken, headLoads, loadWaits, loadEnded, loadedBy, nextAfter, nextIn, takenAs, underLoad, waits}
 use Rattle.taking.specs.declared.Loaded.{Loaded}
 use Rattle.taking.specs.declared.Loaded.the-variants as loaded
@@ -40,7 +40,7 @@ unfolding sizesKept contentKept numberKept unsettledKept tagKept rowKept follows
 wordWords = 0
 
 unfoldable pub loadWords : ℕ
-unfolding openedAs headerRead openedBy otherAt counterAt spoilt took clockTaken lastTaken totalTaken rowSaid lastRow joins joined rowTaken closed rowOrClosing behindLasts nextAfter nextIn waits headLoads loadWaits underLoad takenAs begun firstTaken loadedBy loadEnded
+unfolding openedAs headerRead openedBy otherAt counterAt spoilt took clockTaken lastTaken totalTaken rowSaid lastRow joins joined rowTaken finished closed rowOrClosing behindLasts nextAfter nextIn waits headLoads loadWaits underLoad takenAs begun firstTaken loadedBy loadEnded
 loadWords = 0
 
 -- Lines one after the other, each as its bytes: what each gets, and the space in the end.

@@ -9,7 +9,7 @@ use borrow.Author.Tests.{eq-eqb, ne-eqb, le-leb, le-ltb, lt-leb, lt-ltb, ltb-tru
 use lib.Dec.{eqb, leb, ltb}
 use lib.ListN.{drop, getD, length, length-replicate, length-set, replicate, set, take, take-append-drop}
 use lib.Seq.{length-take-le, paste, take-all, take-at}
-use Rattle.meaning.proofs.Tests.{and-both, and-left, and-right}
+use Rattle.meaning.proofs.Tests.{and-both, and-left}
 use Rattle.layout.specs.Layout.{capacityIn, countIn, holdsTable, rowWidth, sizeIn, spaceFor}
 use Rattle.rules.specs.TableTests.{clockIn, kindsIn}
 use Rattle.rowrules.specs.RowTests.{follows, rowKept}
@@ -22,8 +22,12 @@ use Rattle.saved.proofs.Vectors.{row-vector}
 use Rattle.taking.specs.declared.Loaded.{Loaded}
 use Rattle.taking.specs.declared.Loaded.the-variants as loaded
 use Rattle.taking.specs.LoadHead.{LoadHead}
-use Rattle.taking.specs.Taking.{closed, joined, joins, lastRow, rowOrClosing, rowSaid, rowTaken, spoilt}
-use Rattle.taking.proofs.Words.{all-three, no-more, part-of, passed, picked, second-fails, third-fails}
+use Rattle.taking.specs.Taking.{closed, finished, joined, joins, lastRow, rowOrClosing, rowSaid, rowTaken, spoilt}
+use Rattle.taking.proofs.Words.{no-more, part-of, passed, picked, second-fails}
+
+later-fails : (a b : Bool) → b ≡ false → (a && b) ≡ false
+later-fails true b e = e
+later-fails false b e = refl
 
 -- the words of a row
 pub row-made : (f : Row) (size number : ℕ) (y x : List ℕ) → length (f .vector) ≡ 16 → number ≡ getD (take (size - 0) (f .vector)) (f .sender) 0
@@ -115,11 +119,7 @@ module _ (s : List ℕ) (f : Row) where
       joining = q ∙ ap (joins s) said
 
       pub row-unruly : t ≡ false → (r : Loaded) (x : List ℕ) → (r, x) ≡ spoilt s → (r, x) ≡ rowTaken f s
-      row-unruly b r x g = g ∙ row-spoilt (later (leb (f .settled) 1) (joins s (rowSaid (sizeIn s) f)) (sym joining ∙ b))
-        where
-          later : (a c : Bool) → c ≡ false → (a && c) ≡ false
-          later true c z = z
-          later false c z = refl
+      row-unruly b r x g = g ∙ row-spoilt (later-fails (leb (f .settled) 1) (joins s (rowSaid (sizeIn s) f)) (sym joining ∙ b))
 
       pub row-right : f .settled ≤ 1 → t ≡ true → (r : Loaded) (x : List ℕ) → (r, x) ≡ joined s (take (7 + n - 0) row) → (r, x) ≡ rowTaken f s
       unfolding rowTaken
@@ -131,43 +131,46 @@ pub join-counts : (s row : List ℕ) (t : Bool) → t ≡ joins s row → t ≡ 
 unfolding joins
 join-counts s row t q b = ltb-true (countIn s) (capacityIn s) (and-left (ltb (countIn s) (capacityIn s)) _ (sym q ∙ b))
 
--- the closing line
+-- the end of a load
 same-spoilt : (s : List ℕ) → spoilt (set s 6 0) ≡ spoilt s
 unfolding spoilt
 same-spoilt s = rw (length-set s 6 0) refl
 
-pub spoilt-long : (s : List ℕ) (r : Loaded) (x : List ℕ) → (r, x) ≡ spoilt (set s 6 0) → length x ≡ length s
-unfolding spoilt
-spoilt-long s r x g = ap (λ (p : Loaded × List ℕ). length (p .1)) g ∙ length-replicate (length (set s 6 0)) 0 ∙ length-set s 6 0
-
-module _ (s bytes : List ℕ) (f : Closing) (h : f ≡ closingRead bytes) where
-  abbrev closing-test : Closing → Bool
-  closing-test q = q .ok && (eqb (q .rows) (countIn s) && holdsTable (set s 6 0))
-
-  abbrev closing-way : Closing → Loaded × List ℕ
-  closing-way q = pick (closing-test q) (loaded.Table, set s 6 0) (spoilt s)
-
-  closing-is : closing-way f ≡ closed bytes s
-  unfolding closed
-  closing-is = ap closing-way h
-
-  closing-spoilt : closing-test f ≡ false → spoilt s ≡ closed bytes s
-  closing-spoilt b = sym (passed (closing-test f) (loaded.Table, set s 6 0) (spoilt s) b) ∙ closing-is
-
-  pub closing-misshapen : f .ok ≡ false → (r : Loaded) (x : List ℕ) → (r, x) ≡ spoilt s → (r, x) ≡ closed bytes s
-  closing-misshapen ok r x g = g ∙ closing-spoilt (ap (λ (b : Bool). b && (eqb (f .rows) (countIn s) && holdsTable (set s 6 0))) ok)
-
-  pub closing-wrong-count : (f .rows ≡ getD s 5 0 → ⊥) → (r : Loaded) (x : List ℕ) → (r, x) ≡ spoilt s → (r, x) ≡ closed bytes s
-  closing-wrong-count d r x g = g ∙ closing-spoilt (second-fails (f .ok) (eqb (f .rows) (countIn s)) (holdsTable (set s 6 0)) (ne-eqb (f .rows) (countIn s) d))
+module _ (s : List ℕ) where
+  pub spoilt-long : (r : Loaded) (x : List ℕ) → (r, x) ≡ spoilt (set s 6 0) → length x ≡ length s
+  unfolding spoilt
+  spoilt-long r x g = ap (λ (p : Loaded × List ℕ). length (p .1)) g ∙ length-replicate (length (set s 6 0)) 0 ∙ length-set s 6 0
 
   module _ (t : Bool) (q : t ≡ holdsTable (set s 6 0)) where
-    pub closing-no-table : t ≡ false → (r : Loaded) (x : List ℕ) → (r, x) ≡ spoilt (set s 6 0) → (r, x) ≡ closed bytes s
-    closing-no-table b r x g = g ∙ same-spoilt s ∙ closing-spoilt (third-fails (f .ok) (eqb (f .rows) (countIn s)) (holdsTable (set s 6 0)) (sym q ∙ b))
+    pub finish-table : t ≡ true → (loaded.Table, set s 6 0) ≡ finished s
+    unfolding finished
+    finish-table b = sym (picked (holdsTable (set s 6 0)) (loaded.Table, set s 6 0) (spoilt s) (sym q ∙ b))
 
-    pub closing-right : f .ok ≡ true → f .rows ≡ getD s 5 0 → t ≡ true → (loaded.Table, set s 6 0) ≡ closed bytes s
-    closing-right ok same b =
-        sym (picked (closing-test f) (loaded.Table, set s 6 0) (spoilt s) (all-three (f .ok) (eqb (f .rows) (countIn s)) (holdsTable (set s 6 0)) ok (eq-eqb (f .rows) (countIn s) same) (sym q ∙ b)))
-        ∙ closing-is
+    pub finish-none : t ≡ false → (r : Loaded) (x : List ℕ) → (r, x) ≡ spoilt (set s 6 0) → (r, x) ≡ finished s
+    unfolding finished
+    finish-none b r x g = g ∙ same-spoilt s ∙ sym (passed (holdsTable (set s 6 0)) (loaded.Table, set s 6 0) (spoilt s) (sym q ∙ b))
+
+-- the closing line
+module _ (s bytes : List ℕ) (f : Closing) (h : f ≡ closingRead bytes) where
+  abbrev closing-test : Closing → Bool
+  closing-test q = q .ok && eqb (q .rows) (countIn s)
+
+  closing-is : pick (closing-test f) (finished s) (spoilt s) ≡ closed bytes s
+  unfolding closed
+  closing-is = ap (λ (q : Closing). pick (closing-test q) (finished s) (spoilt s)) h
+
+  closing-spoilt : closing-test f ≡ false → spoilt s ≡ closed bytes s
+  closing-spoilt b = sym (passed (closing-test f) (finished s) (spoilt s) b) ∙ closing-is
+
+  pub closing-misshapen : f .ok ≡ false → (r : Loaded) (x : List ℕ) → (r, x) ≡ spoilt s → (r, x) ≡ closed bytes s
+  closing-misshapen ok r x g = g ∙ closing-spoilt (ap (λ (b : Bool). b && eqb (f .rows) (countIn s)) ok)
+
+  pub closing-wrong-count : (f .rows ≡ getD s 5 0 → ⊥) → (r : Loaded) (x : List ℕ) → (r, x) ≡ spoilt s → (r, x) ≡ closed bytes s
+  closing-wrong-count d r x g = g ∙ closing-spoilt (later-fails (f .ok) (eqb (f .rows) (countIn s)) (ne-eqb (f .rows) (countIn s) d))
+
+  pub closing-right : f .ok ≡ true → f .rows ≡ getD s 5 0 → (r : Loaded) (x : List ℕ) → (r, x) ≡ finished s → (r, x) ≡ closed bytes s
+  closing-right ok same r x g =
+      g ∙ sym (picked (closing-test f) (finished s) (spoilt s) (and-both (f .ok) (eqb (f .rows) (countIn s)) ok (eq-eqb (f .rows) (countIn s) same))) ∙ closing-is
 
 -- a row's line or the closing line
 module _ (s bytes : List ℕ) (n : ℕ) (en : n ≡ getD s 1 0) (f : Row) (h : f ≡ rowRead n bytes) where

@@ -80,12 +80,17 @@ rowTaken f words =
     let row = rowSaid (sizeIn words) f in
     pick (leb (f .settled) 1 && joins words row) (joined words row) (spoilt words)
 
--- `5f` row count: the words are a table now, or nothing.
+-- No load is under way any more: the words are a table by the rules, or nothing.
+unfoldable pub finished : List ℕ → Loaded × List ℕ
+finished words =
+    let whole = set words 6 0 in
+    pick (holdsTable whole) (loaded.Table, whole) (spoilt words)
+
+-- `5f` row count
 unfoldable pub closed : List ℕ → List ℕ → Loaded × List ℕ
 closed bytes words =
     let f = closingRead bytes in
-    let whole = set words 6 0 in
-    pick (f .ok && (eqb (f .rows) (countIn words) && holdsTable whole)) (loaded.Table, whole) (spoilt words)
+    pick (f .ok && eqb (f .rows) (countIn words)) (finished words) (spoilt words)
 
 -- Once all totals are there: a row's line, or else the closing line.
 unfoldable pub rowOrClosing : List ℕ → List ℕ → Loaded × List ℕ

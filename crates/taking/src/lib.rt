@@ -6,7 +6,7 @@ ghost use Prim.Native.Nat.{_+_, _≤_, _<_};
 ghost use lib.ListN.{drop, length};
 ghost use Rattle.layout.specs.Layout.{capacityIn, countIn, objectsIn, rowWidth, sizeIn};
 ghost use Rattle.taking.specs.LoadHead.{LoadHead, mostProgress, progressIn};
-ghost use Rattle.taking.specs.Taking.{clockTaken, closed, joined, joins, lastTaken, rowOrClosing, rowSaid, rowTaken, spoilt, took, totalTaken};
+ghost use Rattle.taking.specs.Taking.{clockTaken, closed, finished, joined, joins, lastTaken, rowOrClosing, rowSaid, rowTaken, spoilt, took, totalTaken};
 use layout::CAPACITY_AT;
 use layout::CLOCK_AT;
 use layout::COUNT_AT;
@@ -198,7 +198,19 @@ fn take_row(space: &mut [u32], f: Row) -> Loaded
     spoil(space)
 }
 
-// The closing line: its count is that of the rows, and the words are a table by the rules.
+// No load is under way any more: the words are a table by the rules, or nothing.
+fn finish(space: &mut [u32]) -> Loaded
+    requires { ⌜ LoadHead (now space) ⌝ }
+    ensures { λ r. ⌜ (r, now (space .exit)) ≡ finished (now (space .entry)) ⌝ }
+{
+    space[LOADING_AT] = rules::IDLE;
+    if rules::is_table(space) {
+        return Loaded::Table;
+    }
+    spoil(space)
+}
+
+// The closing line, whose count must be that of the rows.
 fn close(space: &mut [u32], bytes: &[u8]) -> Loaded
     requires { ⌜ LoadHead (now space) ⌝ }
     ensures { λ r. ⌜ (r, now (space .exit)) ≡ closed (now (bytes .entry)) (now (space .entry)) ⌝ }
@@ -207,12 +219,8 @@ fn close(space: &mut [u32], bytes: &[u8]) -> Loaded
     if !f.ok {
         return spoil(space);
     }
-    if f.rows != space[COUNT_AT] {
-        return spoil(space);
-    }
-    space[LOADING_AT] = rules::IDLE;
-    if rules::is_table(space) {
-        return Loaded::Table;
+    if f.rows == space[COUNT_AT] {
+        return finish(space);
     }
     spoil(space)
 }
