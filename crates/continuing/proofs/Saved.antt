@@ -25,8 +25,8 @@ use Rattle.forms.proofs.Agreeing.{equal-lines}
 use Rattle.telling.specs.Telling.{refusalBytes, replyBytes}
 use Rattle.answering.specs.Answering.{questionAnswer}
 use Rattle.spoken.specs.Spoken.{headerRead}
-use Rattle.loading.specs.declared.Loaded.{Loaded}
-use Rattle.loading.specs.declared.Loaded.the-variants as loaded
+use Rattle.taking.specs.declared.Loaded.{Loaded}
+use Rattle.taking.specs.declared.Loaded.the-variants as loaded
 use Rattle.loading.specs.Loading.{loadedBy, underLoad}
 use Rattle.restoring.specs.Restoring.{loads}
 use Rattle.restoring.proofs.RoundTrip as restoring

@@ -38,7 +38,7 @@ use Rattle.forms.proofs.Short.{clock-short, last-short, total-short}
 use Rattle.forms.proofs.ReadsBack.{clock-back, last-back, last-known, total-back}
 use Rattle.loading.specs.declared.Next.{Next}
 use Rattle.loading.specs.declared.Next.the-variants as next
-use Rattle.loading.specs.declared.Loaded.the-variants as loaded
+use Rattle.taking.specs.declared.Loaded.the-variants as loaded
 use Rattle.loading.specs.Loading.{behindLasts, loadedBy, nextAfter}
 use Rattle.restoring.specs.Restoring.{takesAll}
 use Rattle.restoring.proofs.Under.{Fresh, under}

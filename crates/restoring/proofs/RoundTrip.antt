@@ -45,7 +45,7 @@ use Rattle.forms.proofs.Short.{closing-short, opening-short, row-short}
 use Rattle.forms.proofs.ReadsBack.{closing-back, kinds-back, opening-back, row-back, row-known}
 use Rattle.spoken.specs.declared.Opened.the-variants as called
 use Rattle.spoken.specs.Spoken.{headerRead, openedAs, openedBy}
-use Rattle.loading.specs.declared.Loaded.the-variants as loaded
+use Rattle.taking.specs.declared.Loaded.the-variants as loaded
 use Rattle.loading.specs.declared.Next.the-variants as next
 use Rattle.loading.specs.Loading.{begun, firstTaken, loadedBy, nextAfter, underLoad}
 use Rattle.restoring.specs.Restoring.{loads, takesAll}
