@@ -5,3 +5,5 @@ pub mod Appending
 pub mod RowLines
 pub mod Mixed
 pub mod Front
+pub mod Heard
+pub mod StepsBack
