@@ -7,3 +7,4 @@ pub mod Mixed
 pub mod Front
 pub mod Heard
 pub mod StepsBack
+pub mod RowBack

@@ -69,19 +69,19 @@ said-words size r few low =
     rw (front-of (words.padded size (r .operation .vector)) size (length-padded size (r .operation .vector) few), entry-padded (r .operation .vector) (size - length (r .operation .vector)) (r .operation .sender), byte-word (r .settled), high, same) refl
 
 module _ (t : Table) (F : Fresh t) (rest : List ℕ) (p : ℕ) (line : List ℕ) (c : nextAfter (t .header .size) (t .header .own) (t .header .kinds) p ≡ next.Rows) where
-  abbrev plain : List ℕ
+  abbrev pub plain : List ℕ
   plain = wordsOf t ++ rest
 
-  abbrev space : List ℕ
+  abbrev pub space : List ℕ
   space = under p t rest
 
-  abbrev size : ℕ
+  abbrev pub size : ℕ
   size = t .header .size
 
   abbrev w : ℕ
   w = rowWidth size
 
-  by-rows : loadedBy line space ≡ takenAs next.Rows (bytesOf line) space
+  pub by-rows : loadedBy line space ≡ takenAs next.Rows (bytesOf line) space
   unfolding waits
   by-rows = taken-by t F rest p line next.Rows c refl
 
@@ -95,7 +95,7 @@ module _ (t : Table) (F : Fresh t) (rest : List ℕ) (p : ℕ) (line : List ℕ)
       ∙ rw (eq-eqb (length (t .rows)) (length (t .rows)) refl, laid-held t is rest) refl)
 
   -- the rows that stand there
-  abbrev written : List (List ℕ)
+  abbrev pub written : List (List ℕ)
   written = map (rowWords size) (t .rows)
 
   rows-at : drop (rowsAt size) plain ≡ flat written ++ (replicate (t .header .capacity * w - length (flat written)) 0 ++ rest)
@@ -108,7 +108,7 @@ module _ (t : Table) (F : Fresh t) (rest : List ℕ) (p : ℕ) (line : List ℕ)
   stand : pieces w (length (t .rows)) (drop (rowsAt size) plain) ≡ written
   stand = ap (pieces w (length (t .rows))) rows-at ∙ pieces-at w (length (t .rows)) written (replicate (t .header .capacity * w - length (flat written)) 0 ++ rest) (wide-rows size (t .rows) (short size (t .rows) (F .well .shape))) (length-map (t .rows) (rowWords size))
 
-  last-is : 0 < length (t .rows) → lastRow space ≡ getD written (length (t .rows) - 1) []
+  pub last-is : 0 < length (t .rows) → lastRow space ≡ getD written (length (t .rows) - 1) []
   unfolding lastRow rowPlace wordsOf
   last-is h =
       let k = length (t .rows) - 1 in
