@@ -71,10 +71,10 @@ each-replicate P zero x h = tt
 each-replicate P (suc n) x h = (h, each-replicate P n x h)
 
 -- how many other stations are before one
-abbrev others : ℕ → ℕ → ℕ
+abbrev pub others : ℕ → ℕ → ℕ
 others own k = cond (leb k own) k (k - 1)
 
-other-back : (own k : ℕ) → (k ≡ own → ⊥) → otherAt own (others own k) ≡ k
+pub other-back : (own k : ℕ) → (k ≡ own → ⊥) → otherAt own (others own k) ≡ k
 unfolding otherAt
 other-back own k n = cases (leb k own)
     (λ e. let less : k < own = omega (arith, leb-true k own e, n) in rw (e, lt-ltb k own less) refl)

@@ -8,3 +8,4 @@ pub mod Front
 pub mod Heard
 pub mod StepsBack
 pub mod RowBack
+pub mod OpeningBack
