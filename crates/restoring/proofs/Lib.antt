@@ -9,3 +9,4 @@ pub mod Heard
 pub mod StepsBack
 pub mod RowBack
 pub mod OpeningBack
+pub mod RowsBack

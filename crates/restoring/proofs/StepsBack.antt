@@ -50,6 +50,11 @@ refused (loaded.Refused number) = true
 refused loaded.Taken = false
 refused loaded.Table = false
 
+abbrev pub isTaken : Loaded → Bool
+isTaken loaded.Taken = true
+isTaken (loaded.Refused number) = false
+isTaken loaded.Table = false
+
 -- a line that was taken: what it says, its spelling, and the record that it makes
 pub record Took {A : Type 0} (line words : List ℕ) (spell : A → List ℕ) (make : A → Table) (p : ℕ) (rest : List ℕ) : Type 0 where
   pub what : A
@@ -70,11 +75,6 @@ pub goes-on : {A : Type 0} (line : List ℕ) (lines : List (List ℕ)) (words : 
 goes-on line [] words spell make p rest after (inl e) h = absurd (false≢true (sym (ap (λ (o : Loaded × List ℕ). refused (o .0)) h) ∙ e))
 goes-on line (second ∷ lines) words spell make p rest after (inl e) h = absurd (false≢true (sym (ap refused (h .0)) ∙ e))
 goes-on line [] words spell make p rest after (inr T) h = absurd (false≢true (ap (λ (o : Loaded × List ℕ). isTaken (o .0)) (sym h ∙ T .next-is)))
-  where
-    isTaken : Loaded → Bool
-    isTaken loaded.Taken = true
-    isTaken (loaded.Refused number) = false
-    isTaken loaded.Table = false
 goes-on line (second ∷ lines) words spell make p rest after (inr T) h = record {
   what = T .what;
   line-is = T .line-is;
