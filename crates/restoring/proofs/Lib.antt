@@ -10,3 +10,5 @@ pub mod StepsBack
 pub mod RowBack
 pub mod OpeningBack
 pub mod RowsBack
+pub mod TotalsBack
+pub mod LastsBack
