@@ -12,3 +12,4 @@ pub mod OpeningBack
 pub mod RowsBack
 pub mod TotalsBack
 pub mod LastsBack
+pub mod OneForm
