@@ -19,7 +19,7 @@ use Rattle.shapes.specs.Reading.{entries, fieldsRead, hasShape, mostStations, s
 use Rattle.shapes.specs.Shapes.{lengthOf, read, written}
 use Rattle.shapes.proofs.Spelling.{length-read}
 use Rattle.writing.specs.Writing.{lineBytes}
-use Rattle.lines.specs.Types.{Line, headOf, lineOf, lineRead, row, total}
+use Rattle.lines.specs.Types.{Line, headOf, lineOf, lineRead}
 use Rattle.saved.specs.Named.{rowRead, totalRead}
 use Rattle.heard.specs.Hearing.{bytesOf}
 

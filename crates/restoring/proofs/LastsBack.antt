@@ -1,6 +1,6 @@
 -- The lines of last vectors of a form that loads, by the table that is left in the end.
 use mathlib.Core.Path.{_≡_, refl, sym, ap, ap₂, _∙_}
-use mathlib.Core.Bool.{Bool, true, false, not, cond}
+use mathlib.Core.Bool.{true, not}
 use mathlib.Core.List.{List, [], _∷_, _++_, map}
 use Prim.Native.Nat.{ℕ, zero, suc, _+_, _-_, _≤_, _<_}
 use native.Mathlib.Omega.{arith}
@@ -12,19 +12,18 @@ use Rattle.meaning.specs.Order.{Vector}
 use Rattle.meaning.specs.Operations.{isCounter}
 use Rattle.meaning.specs.Table.{Header, Table, kindIn}
 use Rattle.meaning.proofs.Tests.{cases}
-use Rattle.meaning.proofs.TableFacts.{HeaderFacts, header-facts}
+use Rattle.meaning.proofs.TableFacts.{header-facts}
 use Rattle.layout.specs.Layout.{holdsTable, tableOf, withLast}
 use Rattle.hexes.specs.Hex.{hexLine}
 use Rattle.formlines.specs.FormLines.{lastLine, totalLine}
 use Rattle.forms.specs.Forms.{linesOf, rowLines, totalLines}
-use Rattle.forms.specs.Seeking.{counterAt, otherAt}
 use Rattle.loading.specs.declared.Next.the-variants as next
 use Rattle.loading.specs.Loading.{nextAfter}
 use Rattle.restoring.specs.Restoring.{loads}
 use Rattle.restoring.proofs.Under.{Fresh, under}
 use Rattle.restoring.proofs.Front.{others, other-back}
-use Rattle.restoring.proofs.StepsBack.{Gone, goes-on, last-back}
-use Rattle.restoring.proofs.TotalsBack.{TotalsEnd, lines-other, lines-there, totals-from}
+use Rattle.restoring.proofs.StepsBack.{goes-on, last-back}
+use Rattle.restoring.proofs.TotalsBack.{lines-other, lines-there, totals-from}
 
 -- so many stations have their last vectors, and the lines say the rest
 pub record LastsEnd (k : ℕ) (t : Table) (lines : List (List ℕ)) (after : List ℕ) : Type 0 where

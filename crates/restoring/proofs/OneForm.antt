@@ -1,29 +1,28 @@
 -- "a form that loads is the form that its table saves", and two tables with the same form are the same table.
 use mathlib.Core.Path.{_≡_, refl, sym, ap, ap₂, _∙_, subst}
-use mathlib.Core.Bool.{Bool, true, false, not, _&&_}
+use mathlib.Core.Bool.{true, false, not}
 use mathlib.Core.List.{List, [], _∷_, _++_, map}
 use Prim.Native.Nat.{ℕ, zero, suc, _+_, _≤_}
 use native.Mathlib.Omega.{arith}
 use lib.Dec.{eqb}
-use lib.ListN.{getD, length, drop, replicate, length-replicate}
+use lib.ListN.{length, drop, replicate, length-replicate}
 use borrow.Author.Tests.{le-leb}
 use Rattle.meaning.specs.Order.{Vector}
 use Rattle.meaning.specs.Table.{Header, Table, isTable, opened}
 use Rattle.meaning.proofs.Tests.{and-right}
-use Rattle.layout.specs.Layout.{holdsTable, isSpelt, spaceFor, tableMark, tableOf, withClock, wordsOf}
+use Rattle.layout.specs.Layout.{holdsTable, isSpelt, spaceFor, tableOf, withClock, wordsOf}
 use Rattle.arrivals.proofs.Kept.{laid-back}
 use Rattle.hexes.specs.Hex.{hexLine}
 use Rattle.formlines.specs.FormLines.{clockLine, lastLine, openingLine}
 use Rattle.forms.specs.Forms.{lastLines, linesOf, rowLines, savedForm, totalLines}
 use Rattle.loading.specs.declared.Loaded.{Loaded}
-use Rattle.loading.specs.declared.Next.the-variants as next
 use Rattle.loading.specs.Loading.{loadedBy, nextAfter, underLoad}
 use Rattle.restoring.specs.Restoring.{loads}
 use Rattle.restoring.proofs.Under.{Fresh, under}
 use Rattle.restoring.proofs.Front.{others}
-use Rattle.restoring.proofs.StepsBack.{Gone, clock-back, goes-on}
+use Rattle.restoring.proofs.StepsBack.{clock-back, goes-on}
 use Rattle.restoring.proofs.OpeningBack.{kept, opening-back}
-use Rattle.restoring.proofs.LastsBack.{LastsEnd, lasts-from}
+use Rattle.restoring.proofs.LastsBack.{lasts-from}
 
 -- the lines behind the opening line
 behind-opening : (lines : List (List ℕ)) (header : Header) → Fresh (opened header) → (rest after : List ℕ) → loads lines (under 1 (opened header) rest) after → (holdsTable after ≡ true) × (hexLine (openingLine header) ∷ lines ≡ map hexLine (savedForm (tableOf after)))
@@ -34,11 +33,12 @@ behind-opening (line ∷ lines) header F rest after h =
     let none : 2 ≡ suc (suc (others (header .own) 0)) = rw (le-leb 0 (header .own) (omega arith)) refl in
     let G = goes-on line lines (under 1 t rest) clockLine (withClock t) 2 rest after (clock-back t F rest 1 line refl refl) h in
     let E = lasts-from (header .size) 0 2 lines (withClock t (G .what)) (G .fresh) rest after (omega arith) none refl (G .more) in
-    let u = tableOf after in
-    (E .held,
-     ap₂ (λ (h : Header) (ls : List (List ℕ)). hexLine (openingLine h) ∷ ls) (sym (E .header-is))
-     (ap₂ (λ (l : List ℕ) (ls : List (List ℕ)). l ∷ ls) (G .line-is ∙ ap (λ (v : Vector). hexLine (clockLine v)) (sym (E .clock-is)))
-     (E .lines-are ∙ ap (λ (h : Header). map hexLine (linesOf (λ (station : ℕ). not (eqb station (h .own))) lastLine 0 (u .last) ++ (totalLines u ++ rowLines u))) (sym (E .header-is)))))
+    let u = tableOf after in (
+      E .held,
+      ap₂ (λ (h : Header) (ls : List (List ℕ)). hexLine (openingLine h) ∷ ls) (sym (E .header-is))
+          (ap₂ (λ (l : List ℕ) (ls : List (List ℕ)). l ∷ ls) (G .line-is ∙ ap (λ (v : Vector). hexLine (clockLine v)) (sym (E .clock-is)))
+          (E .lines-are ∙ ap (λ (h : Header). map hexLine (linesOf (λ (station : ℕ). not (eqb station (h .own))) lastLine 0 (u .last) ++ (totalLines u ++ rowLines u))) (sym (E .header-is)))),
+    )
 
 -- A form that loads leaves a table, and its lines are those that this table saves. What the space held before is free.
 pub form-that-loads : (lines : List (List ℕ)) (words after : List ℕ) → underLoad words ≡ false → loads lines words after → (holdsTable after ≡ true) × (lines ≡ map hexLine (savedForm (tableOf after)))

@@ -1,21 +1,20 @@
 -- What an opening line said that begins a load.
-use mathlib.Core.Path.{_≡_, refl, sym, ap, _∙_}
-use mathlib.Core.Bool.{Bool, true, false, cond}
+use mathlib.Core.Path.{_≡_, refl, ap, _∙_}
+use mathlib.Core.Bool.{true, false}
 use mathlib.Core.Logic.{_⊎_, inl, inr}
-use mathlib.Core.List.{List, [], _∷_, _++_}
-use Prim.Native.Nat.{ℕ, suc, _+_, _-_}
+use mathlib.Core.List.{List, [], _∷_}
+use Prim.Native.Nat.{ℕ}
 use native.Mathlib.Omega.{arith}
 use lib.Dec.{eqb}
 use lib.ListN.{length, drop, length-drop}
 use borrow.Author.Tests.{eqb-true}
 use Rattle.meaning.specs.Tests.{between}
 use Rattle.meaning.specs.Refusals.{firstOf, openingRefusals}
-use Rattle.meaning.specs.Table.{Header, Table, inRange, isTable, opened}
+use Rattle.meaning.specs.Table.{Header, inRange, opened}
 use Rattle.meaning.specs.Calls as meaning
 use Rattle.meaning.proofs.Tests.{cases}
 use Rattle.meaning.proofs.TableRules.{opened-is-table}
-use Rattle.layout.specs.Layout.{spaceFor, wordsOf}
-use Rattle.hexes.specs.Choice.{pick}
+use Rattle.layout.specs.Layout.{spaceFor}
 use Rattle.hexes.specs.Hex.{hexLine}
 use Rattle.lines.specs.Types.{lineOf, opening}
 use Rattle.lines.specs.Named.{openingRead}
@@ -26,9 +25,8 @@ use Rattle.formlines.specs.FormLines.{openingLine}
 use Rattle.spoken.specs.Spoken.{headerRead, openedAs, openedBy}
 use Rattle.spoken.proofs.Opening.{open-ranges}
 use Rattle.loading.specs.declared.Loaded.{Loaded}
-use Rattle.loading.specs.declared.Loaded.the-variants as loaded
 use Rattle.loading.specs.Loading.{begun, firstTaken, loadedBy, underLoad}
-use Rattle.restoring.proofs.Under.{Fresh, under}
+use Rattle.restoring.proofs.Under.{Fresh}
 use Rattle.restoring.proofs.Front.{fresh-opened}
 use Rattle.restoring.proofs.Heard.{heard-bytes, line-said}
 use Rattle.restoring.proofs.StepsBack.{Took, refused}

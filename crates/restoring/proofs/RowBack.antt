@@ -1,21 +1,21 @@
 -- What a row's line said, and the closing line, that a space under load took.
-use mathlib.Core.Path.{_≡_, refl, sym, ap, ap₂, _∙_, subst}
-use mathlib.Core.Bool.{Bool, true, false, not, _&&_, cond, false≢true}
+use mathlib.Core.Path.{_≡_, refl, sym, ap, ap₂, _∙_}
+use mathlib.Core.Bool.{Bool, true, false, not, _&&_, cond}
 use mathlib.Core.Logic.{_⊎_, inl, inr}
 use mathlib.Core.List.{List, [], _∷_, _++_, map}
 use Prim.Native.Nat.{ℕ, zero, suc, _+_, _-_, _*_, _≤_, _<_}
 use native.Mathlib.Omega.{arith}
 use lib.Dec.{eqb, leb, ltb}
-use lib.ListN.{getD, length, take, drop, set, replicate}
+use lib.ListN.{getD, length, take, set, replicate}
 use lib.Seq.{paste, length-take-le}
-use borrow.Author.Tests.{eq-eqb, eqb-true, eqb-false, ne-eqb, leb-true, ltb-true}
+use borrow.Author.Tests.{eq-eqb, eqb-true, ne-eqb, leb-true, ltb-true}
 use Rattle.meaning.specs.Order.{Vector}
 use Rattle.meaning.specs.Rows.{Row}
 use Rattle.meaning.specs.Table.{Table, settledOnly}
 use Rattle.meaning.specs.Calls.{withRows}
 use Rattle.meaning.proofs.Tests.{cases, and-left, and-right}
 use Rattle.layout.specs.Words as words
-use Rattle.layout.specs.Words.{allZero, ofTwoWords}
+use Rattle.layout.specs.Words.{allZero}
 use Rattle.layout.specs.Layout.{wordsOf, holdsTable, rowOf, rowWords}
 use Rattle.layout.proofs.Whole.{length-padded}
 use Rattle.layout.proofs.RowWords.{Shaped, Spelt, padded-all, row-written, short-row}
@@ -25,7 +25,6 @@ use Rattle.hexes.specs.Hex.{hexLine}
 use Rattle.shapes.specs.Reading as shapes
 use Rattle.lines.specs.Types.{closing, lineOf, row}
 use Rattle.saved.specs.declared.Row as saved
-use Rattle.saved.specs.declared.Closing.{Closing}
 use Rattle.saved.specs.Named.{closingRead, rowRead}
 use Rattle.saved.proofs.Named.{closing-only-spelling, row-only-spelling}
 use Rattle.saved.proofs.Vectors.{row-vector}
@@ -36,7 +35,7 @@ use Rattle.loading.specs.declared.Loaded.the-variants as loaded
 use Rattle.loading.specs.declared.Next.the-variants as next
 use Rattle.loading.specs.Loading.{closed, joins, lastRow, loadedBy, nextAfter, rowPlace, rowSaid, rowTaken, spoilt, takenAs}
 use Rattle.restoring.proofs.Setting.{set-set}
-use Rattle.restoring.proofs.Under.{Fresh, under, size-is, capacity-is, count-is, kinds-are, clock-is}
+use Rattle.restoring.proofs.Under.{Fresh, under, count-is, kinds-are, clock-is}
 use Rattle.restoring.proofs.Steps.{front-of}
 use Rattle.restoring.proofs.RowLines.{by-rows, last-is, lineOfRow, row-step}
 use Rattle.restoring.proofs.Heard.{heard-bytes, line-said, value-small, vector-padded}
@@ -175,13 +174,22 @@ module _ (t : Table) (F : Fresh t) (rest : List ℕ) (p : ℕ) (line : List ℕ)
         next-is = row-step t F rest p line c r few (row-low size f long small flag kinds (t .clock) (J .1 .0)) (J .0) (rw spelt (J .1 .0)) (λ some. rw spelt (J .1 .1 some)) e;
       }
 
+  -- what a row's line gets
+  abbrev rowAnswer : saved.Row → Loaded × List ℕ
+  rowAnswer f =
+      pick (leb (f .settled) 1 && joins space (rowSaid size f))
+      (loaded.Taken, set (paste space (rowPlace space (length (t .rows))) (rowSaid size f) (length (rowSaid size f))) 5 (suc (length (t .rows))))
+      (spoilt space)
+
+  row-answered : rowRead size bytes .ok ≡ true → loadedBy line space ≡ rowAnswer (rowRead size bytes)
+  unfolding takenAs rowTaken wordsOf
+  row-answered ok = by-rows t F rest p line c ∙ ap (λ (b : Bool). pick b (rowAnswer (rowRead size bytes)) (closed bytes space)) ok
+
   pub row-back : rowRead size bytes .ok ≡ true → (refused (loadedBy line space .0) ≡ true) ⊎ Took line space (rowLine size) (λ (r : Row). withRows t (t .rows ++ (r ∷ []))) p rest
-  unfolding takenAs rowTaken wordsOf spoilt
+  unfolding spoilt
   row-back ok =
       let f = rowRead size bytes in
-      let said = rowSaid size f in
       let long : length (take size (f .vector)) ≡ size = length-take-le size (f .vector) (omega (arith, row-vector bytes size f refl, F .sized .few)) in
-      let answer : loadedBy line space ≡ pick (leb (f .settled) 1 && joins space said) (loaded.Taken, set (paste space (rowPlace space (length (t .rows))) said (length said)) 5 (suc (length (t .rows)))) (spoilt space) = by-rows t F rest p line c ∙ rw (size-is t F rest p, count-is t F rest p, ok) refl in
-      cases (leb (f .settled) 1 && joins space said)
-      (λ yes. inr (row-taken ok long (leb-true (f .settled) 1 (and-left (leb (f .settled) 1) (joins space said) yes)) (and-right (leb (f .settled) 1) (joins space said) yes)))
-      (λ bad. inl (ap (λ (o : Loaded × List ℕ). refused (o .0)) answer ∙ rw bad refl))
+      cases (leb (f .settled) 1 && joins space (rowSaid size f))
+      (λ yes. inr (row-taken ok long (leb-true (f .settled) 1 (and-left (leb (f .settled) 1) (joins space (rowSaid size f)) yes)) (and-right (leb (f .settled) 1) (joins space (rowSaid size f)) yes)))
+      (λ bad. inl (ap (λ (o : Loaded × List ℕ). refused (o .0)) (row-answered ok) ∙ rw bad refl))

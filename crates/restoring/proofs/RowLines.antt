@@ -69,13 +69,13 @@ said-words size r few low =
     rw (front-of (words.padded size (r .operation .vector)) size (length-padded size (r .operation .vector) few), entry-padded (r .operation .vector) (size - length (r .operation .vector)) (r .operation .sender), byte-word (r .settled), high, same) refl
 
 module _ (t : Table) (F : Fresh t) (rest : List ℕ) (p : ℕ) (line : List ℕ) (c : nextAfter (t .header .size) (t .header .own) (t .header .kinds) p ≡ next.Rows) where
-  abbrev pub plain : List ℕ
+  abbrev plain : List ℕ
   plain = wordsOf t ++ rest
 
-  abbrev pub space : List ℕ
+  abbrev space : List ℕ
   space = under p t rest
 
-  abbrev pub size : ℕ
+  abbrev size : ℕ
   size = t .header .size
 
   abbrev w : ℕ
@@ -95,7 +95,7 @@ module _ (t : Table) (F : Fresh t) (rest : List ℕ) (p : ℕ) (line : List ℕ)
       ∙ rw (eq-eqb (length (t .rows)) (length (t .rows)) refl, laid-held t is rest) refl)
 
   -- the rows that stand there
-  abbrev pub written : List (List ℕ)
+  abbrev written : List (List ℕ)
   written = map (rowWords size) (t .rows)
 
   rows-at : drop (rowsAt size) plain ≡ flat written ++ (replicate (t .header .capacity * w - length (flat written)) 0 ++ rest)

@@ -1,6 +1,6 @@
 -- The lines of rows and the closing line of a form that loads, by the table that they leave.
-use mathlib.Core.Path.{_≡_, refl, sym, ap, ap₂, _∙_, subst}
-use mathlib.Core.Bool.{Bool, true, false, false≢true}
+use mathlib.Core.Path.{_≡_, sym, ap, ap₂, _∙_, subst}
+use mathlib.Core.Bool.{true, false≢true}
 use mathlib.Core.Logic.{_⊎_, inl, inr}
 use mathlib.Core.List.{List, [], _∷_, _++_, map, append-assoc, append-nil}
 use Prim.Native.Nat.{ℕ}
@@ -16,7 +16,6 @@ use Rattle.saved.specs.Named.{rowRead}
 use Rattle.heard.specs.Hearing.{bytesOf}
 use Rattle.formlines.specs.FormLines.{closingLine, rowLine}
 use Rattle.loading.specs.declared.Loaded.{Loaded}
-use Rattle.loading.specs.declared.Loaded.the-variants as loaded
 use Rattle.loading.specs.declared.Next.the-variants as next
 use Rattle.loading.specs.Loading.{loadedBy, nextAfter}
 use Rattle.restoring.specs.Restoring.{loads}
@@ -45,16 +44,21 @@ closes line [] t F rest p after (inr C) h =
     }
 closes line (second ∷ lines) t F rest p after (inr C) h = absurd (false≢true (ap isTaken (sym (ap (λ (o : Loaded × List ℕ). o .0) (C .next-is)) ∙ h .0)))
 
-pub rows-from : (lines : List (List ℕ)) (t : Table) → Fresh t → (rest : List ℕ) (p : ℕ) (after : List ℕ) → nextAfter (t .header .size) (t .header .own) (t .header .kinds) p ≡ next.Rows → loads lines (under p t rest) after → RowsEnd t lines after
-rows-from [] t F rest p after c h = absurd h
-rows-from (line ∷ lines) t F rest p after c h = cases (rowRead (t .header .size) (bytesOf line) .ok)
-    (λ ok. let G = goes-on line lines (under p t rest) (rowLine (t .header .size)) (λ (r : Row). withRows t (t .rows ++ (r ∷ []))) p rest after (row-back t F rest p line c ok) h in
-    let E = rows-from lines (withRows t (t .rows ++ (G .what ∷ []))) (G .fresh) rest p after c (G .more) in
+-- a row's line ahead of the lines of more rows
+one-more : (line : List ℕ) (lines : List (List ℕ)) (t : Table) (rest : List ℕ) (p : ℕ) (after : List ℕ) (G : Gone line lines (rowLine (t .header .size)) (λ (r : Row). withRows t (t .rows ++ (r ∷ []))) p rest after)
+    → RowsEnd (withRows t (t .rows ++ (G .what ∷ []))) lines after → RowsEnd t (line ∷ lines) after
+one-more line lines t rest p after G E =
     let all : (t .rows ++ (G .what ∷ [])) ++ E .more ≡ t .rows ++ (G .what ∷ E .more) = append-assoc (t .rows) (G .what ∷ []) (E .more) in
     record {
       held = E .held;
       more = G .what ∷ E .more;
       table-is = E .table-is ∙ ap (withRows t) all;
       lines-are = ap₂ (λ (l : List ℕ) (ls : List (List ℕ)). l ∷ ls) (G .line-is) (E .lines-are ∙ ap (λ (rows : List Row). map hexLine (map (rowLine (t .header .size)) (E .more) ++ (closingLine (length rows) ∷ []))) all);
-    })
+    }
+
+pub rows-from : (lines : List (List ℕ)) (t : Table) → Fresh t → (rest : List ℕ) (p : ℕ) (after : List ℕ) → nextAfter (t .header .size) (t .header .own) (t .header .kinds) p ≡ next.Rows → loads lines (under p t rest) after → RowsEnd t lines after
+rows-from [] t F rest p after c h = absurd h
+rows-from (line ∷ lines) t F rest p after c h = cases (rowRead (t .header .size) (bytesOf line) .ok)
+    (λ ok. let G = goes-on line lines (under p t rest) (rowLine (t .header .size)) (λ (r : Row). withRows t (t .rows ++ (r ∷ []))) p rest after (row-back t F rest p line c ok) h in
+    one-more line lines t rest p after G (rows-from lines (withRows t (t .rows ++ (G .what ∷ []))) (G .fresh) rest p after c (G .more)))
     (λ other. closes line lines t F rest p after (close-back t F rest p line c other) h)

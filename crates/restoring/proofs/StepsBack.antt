@@ -1,13 +1,13 @@
 -- What a line said that a space under load took.
 use mathlib.Core.Path.{_≡_, refl, sym, ap, ap₂, _∙_, subst}
 use mathlib.Core.Bool.{Bool, true, false, _&&_, false≢true}
-use mathlib.Core.Logic.{_⊎_, inl, inr, ⊎-elim}
+use mathlib.Core.Logic.{_⊎_, inl, inr}
 use mathlib.Core.List.{List, [], _∷_, _++_}
-use Prim.Native.Nat.{ℕ, zero, suc, _+_, _-_, _*_, _/_, _%_, _≤_, _<_}
+use Prim.Native.Nat.{ℕ, zero, suc, _+_, _*_, _/_, _%_, _<_}
 use native.Mathlib.Omega.{arith}
 use lib.Dec.{eqb, ltb}
-use lib.IntN.{ℤ, pos, negsuc}
-use lib.ListN.{getD, length, take, drop, set, length-set, length-append}
+use lib.IntN.{ℤ}
+use lib.ListN.{getD, length, take, set, length-set, length-append}
 use lib.Seq.{length-take-le}
 use borrow.Author.Tests.{eq-eqb, eqb-true, ltb-true, ltb-false}
 use Rattle.meaning.specs.Order.{Vector}
@@ -15,20 +15,17 @@ use Rattle.meaning.specs.Rows.{Row}
 use Rattle.meaning.specs.Table.{Table, totalBound}
 use Rattle.meaning.specs.Calls.{withRows}
 use Rattle.meaning.proofs.Tests.{cases, and-left, and-right}
-use Rattle.layout.specs.Words.{wordLimit, complement, ofComplement}
-use Rattle.layout.specs.Layout.{wordsOf, withClock, withLast, withTotals, totalWords, totalOfWords}
-use Rattle.layout.proofs.Pieces.{Each, Wide}
+use Rattle.layout.specs.Words.{complement, ofComplement}
+use Rattle.layout.specs.Layout.{wordsOf, withClock, withLast, withTotals, totalOfWords}
+use Rattle.layout.proofs.Pieces.{Each}
 use Rattle.layout.proofs.RowWords.{Shaped, high-of, low-of}
 use Rattle.layout.proofs.Reading.{InRange}
 use Rattle.layout.proofs.Spelling.{code-read}
 use Rattle.layout.proofs.Changing.{wide-set}
 use Rattle.clockrules.specs.ClockTests.{lastKept, totalKept}
-use Rattle.hexes.specs.Choice.{pick}
 use Rattle.hexes.specs.Hex.{hexLine}
-use Rattle.shapes.specs.Reading as shapes
 use Rattle.lines.specs.Types.{clock, lastVector, total, lineOf}
 use Rattle.saved.specs.declared.Clock.{Clock}
-use Rattle.saved.specs.declared.LastVector.{LastVector}
 use Rattle.saved.specs.declared.Total.{Total}
 use Rattle.saved.specs.Named.{clockRead, lastRead, totalRead}
 use Rattle.saved.proofs.Named.{clock-only-spelling, last-only-spelling, total-only-spelling}
@@ -37,7 +34,6 @@ use Rattle.heard.specs.Hearing.{bytesOf}
 use Rattle.formlines.specs.FormLines.{clockLine, lastLine, totalLine}
 use Rattle.loading.specs.declared.Loaded.{Loaded}
 use Rattle.loading.specs.declared.Loaded.the-variants as loaded
-use Rattle.loading.specs.declared.Next.{Next}
 use Rattle.loading.specs.declared.Next.the-variants as next
 use Rattle.loading.specs.Loading.{clockTaken, lastTaken, loadedBy, nextAfter, spoilt, takenAs, took, totalTaken, waits}
 use Rattle.restoring.specs.Restoring.{loads}

@@ -23,8 +23,8 @@ use Rattle.loading.specs.declared.Next.the-variants as next
 use Rattle.loading.specs.Loading.{behindLasts, nextAfter}
 use Rattle.restoring.specs.Restoring.{loads}
 use Rattle.restoring.proofs.Under.{Fresh, under}
-use Rattle.restoring.proofs.StepsBack.{Gone, goes-on, total-back}
-use Rattle.restoring.proofs.RowsBack.{RowsEnd, rows-from}
+use Rattle.restoring.proofs.StepsBack.{goes-on, total-back}
+use Rattle.restoring.proofs.RowsBack.{rows-from}
 
 -- so many objects have their totals, and the lines say the rest
 pub record TotalsEnd (k : ℕ) (t : Table) (lines : List (List ℕ)) (after : List ℕ) : Type 0 where
