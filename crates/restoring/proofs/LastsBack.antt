@@ -2,16 +2,17 @@
 use mathlib.Core.Path.{_≡_, refl, sym, ap, ap₂, _∙_}
 use mathlib.Core.Bool.{true, not}
 use mathlib.Core.List.{List, [], _∷_, _++_, map}
-use Prim.Native.Nat.{ℕ, zero, suc, _+_, _-_, _≤_, _<_}
+use Prim.Native.Nat.{ℕ, zero, suc, _+_, _<_}
 use native.Mathlib.Omega.{arith}
 use lib.Dec.{eqb, leb}
 use lib.ListN.{getD, length, drop, set, drop-of-length-le}
 use lib.Seq.{getD-set-same, getD-set-other}
-use borrow.Author.Tests.{eqb-true, eqb-false, ne-eqb, le-leb, lt-leb, leb-true, leb-false}
+use borrow.Author.Tests.{eqb-true, eqb-false, le-leb, lt-leb, leb-true, leb-false}
 use Rattle.meaning.specs.Order.{Vector}
 use Rattle.meaning.specs.Operations.{isCounter}
-use Rattle.meaning.specs.Table.{Header, Table, kindIn}
+use Rattle.meaning.specs.Table.{Header, Table, inRange, kindIn, opened}
 use Rattle.meaning.proofs.Tests.{cases}
+use Rattle.meaning.proofs.TableRules.{opened-is-table}
 use Rattle.meaning.proofs.TableFacts.{header-facts}
 use Rattle.layout.specs.Layout.{holdsTable, tableOf, withLast}
 use Rattle.hexes.specs.Hex.{hexLine}
@@ -21,7 +22,7 @@ use Rattle.loading.specs.declared.Next.the-variants as next
 use Rattle.loading.specs.Loading.{nextAfter}
 use Rattle.restoring.specs.Restoring.{loads}
 use Rattle.restoring.proofs.Under.{Fresh, under}
-use Rattle.restoring.proofs.Front.{others, other-back}
+use Rattle.restoring.proofs.Front.{next-last, others}
 use Rattle.restoring.proofs.StepsBack.{goes-on, last-back}
 use Rattle.restoring.proofs.TotalsBack.{lines-other, lines-there, totals-from}
 
@@ -34,12 +35,9 @@ pub record LastsEnd (k : ℕ) (t : Table) (lines : List (List ℕ)) (after : Lis
   pub before : (i : ℕ) → i < k → getD (tableOf after .last) i [] ≡ getD (t .last) i []
   pub lines-are : lines ≡ map hexLine (linesOf (λ (station : ℕ). not (eqb station (t .header .own))) lastLine k (drop k (tableOf after .last)) ++ (totalLines (tableOf after) ++ rowLines (tableOf after)))
 
-next-last : (size own : ℕ) (kinds : List ℕ) (k : ℕ) → own < size → k < size → (k ≡ own → ⊥) → nextAfter size own kinds (suc (suc (others own k))) ≡ next.Last (record { 0 = k })
-unfolding nextAfter
-next-last size own kinds k in-group b n =
-    let few : suc (suc (others own k)) ≤ size = cases (leb k own) (λ e. rw e (omega (arith, in-group, leb-true k own e, n))) (λ e. rw e (omega (arith, leb-false k own e))) in
-    let back : suc (suc (others own k)) - 2 ≡ others own k = omega arith in
-    rw (ne-eqb (suc (suc (others own k))) 0 (λ z. omega (arith, z)), ne-eqb (suc (suc (others own k))) 1 (λ z. omega (arith, z)), le-leb (suc (suc (others own k))) size few, back, other-back own k n) refl
+next-other : (header : Header) → inRange header ≡ true → (k : ℕ) → k < header .size → (k ≡ header .own → ⊥) → nextAfter (header .size) (header .own) (header .kinds) (suc (suc (others (header .own) k))) ≡ next.Last (record { 0 = k })
+unfolding opened
+next-other header range k b n = next-last (opened header) (opened-is-table header range) [] k b n
 
 -- one more station
 others-own : (own k : ℕ) → k ≡ own → others own (suc k) ≡ others own k
@@ -76,7 +74,6 @@ lasts-from zero k p lines t F rest after e q none h =
 lasts-from (suc n) k p [] t F rest after e q none h = absurd h
 lasts-from (suc n) k p (line ∷ lines) t F rest after e q none h =
     let own = t .header .own in
-    let H = header-facts (t .header) (F .ranged) in
     cases (eqb k own)
     (λ is. let E = lasts-from n (suc k) p (line ∷ lines) t F rest after (omega arith) (q ∙ ap (λ (i : ℕ). suc (suc i)) (sym (others-own own k (eqb-true k own is)))) none h in
     record {
@@ -88,7 +85,7 @@ lasts-from (suc n) k p (line ∷ lines) t F rest after e q none h =
       lines-are = E .lines-are ∙ ap (λ (ls : List (List ℕ)). map hexLine (ls ++ (totalLines (tableOf after) ++ rowLines (tableOf after)))) (lines-other (λ (station : ℕ). not (eqb station own)) lastLine (tableOf after .last) [] k (omega (arith, E .many)) (ap not is));
     })
     (λ other. let n-own : k ≡ own → ⊥ = eqb-false k own other in
-    let c : nextAfter (t .header .size) own (t .header .kinds) p ≡ next.Last (record { 0 = k }) = rw q (next-last (t .header .size) own (t .header .kinds) k (H .own-in) (omega arith) n-own) in
+    let c : nextAfter (t .header .size) own (t .header .kinds) p ≡ next.Last (record { 0 = k }) = rw q (next-other (t .header) (F .ranged) k (omega arith) n-own) in
     let G = goes-on line lines (under p t rest) (lastLine k) (λ (v : Vector). withLast t (set (t .last) k v)) (suc p) rest after (last-back t F rest p line (ap length none) k (omega arith) c) h in
     let v : Vector = G .what in
     let E = lasts-from n (suc k) (suc p) lines (withLast t (set (t .last) k v)) (G .fresh) rest after (omega arith) (ap suc q ∙ ap (λ (i : ℕ). suc (suc i)) (sym (others-more own k n-own))) none (G .more) in
