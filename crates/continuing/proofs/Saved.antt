@@ -35,6 +35,8 @@ use Rattle.calls.specs.Station.{eventsOfAll}
 use Rattle.calls.specs.Lines.{OpenedBy, acceptedBy, callsOf, meantAnswer}
 use Rattle.calls.proofs.Calling.{Holds, after-both, opening-in-range, reply-agrees, reply-meant, rows-agree}
 use Rattle.calls.proofs.Lines.{line-accepted, next-holds, opened-fresh, opened-holds, question-on}
+-- a form that loads is the form that its table saves, and two tables with the same form are the same table
+pub use Rattle.restoring.proofs.OneForm.{form-that-loads, one-form, same-form}
 use Rattle.continuing.specs.Continuing.{Act, said, restored, Fitting, acceptedByActs, actAfter, actsAfter, loadedAll}
 
 -- what a form leaves where all its lines are taken

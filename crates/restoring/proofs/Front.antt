@@ -71,7 +71,7 @@ each-replicate P zero x h = tt
 each-replicate P (suc n) x h = (h, each-replicate P n x h)
 
 -- how many other stations are before one
-abbrev others : ℕ → ℕ → ℕ
+abbrev pub others : ℕ → ℕ → ℕ
 others own k = cond (leb k own) k (k - 1)
 
 other-back : (own k : ℕ) → (k ≡ own → ⊥) → otherAt own (others own k) ≡ k
@@ -210,7 +210,7 @@ module _ (t : Table) (is : isTable t ≡ true) (rest : List ℕ) where
   abbrev not-own : ℕ → Bool
   not-own station = not (eqb station own)
 
-  next-last : (k : ℕ) → k < size → (k ≡ own → ⊥) → nextAfter size own kinds (suc (suc (others own k))) ≡ next.Last (record { 0 = k })
+  pub next-last : (k : ℕ) → k < size → (k ≡ own → ⊥) → nextAfter size own kinds (suc (suc (others own k))) ≡ next.Last (record { 0 = k })
   unfolding nextAfter
   next-last k b n =
       let few : suc (suc (others own k)) ≤ size = cases (leb k own) (λ e. rw e (omega (arith, H .own-in, leb-true k own e, n))) (λ e. rw e (omega (arith, leb-false k own e))) in

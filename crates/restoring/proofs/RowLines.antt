@@ -82,7 +82,7 @@ module _ (t : Table) (F : Fresh t) (rest : List ℕ) (p : ℕ) (line : List ℕ)
   abbrev w : ℕ
   w = rowWidth size
 
-  by-rows : loadedBy line space ≡ takenAs next.Rows (bytesOf line) space
+  pub by-rows : loadedBy line space ≡ takenAs next.Rows (bytesOf line) space
   unfolding waits
   by-rows = taken-by t F rest p line next.Rows c refl
 
@@ -109,7 +109,7 @@ module _ (t : Table) (F : Fresh t) (rest : List ℕ) (p : ℕ) (line : List ℕ)
   stand : pieces w (length (t .rows)) (drop (rowsAt size) plain) ≡ written
   stand = ap (pieces w (length (t .rows))) rows-at ∙ pieces-at w (length (t .rows)) written (replicate (t .header .capacity * w - length (flat written)) 0 ++ rest) (wide-rows size (t .rows) (short size (t .rows) (F .well .shape))) (length-map (t .rows) (rowWords size))
 
-  last-is : 0 < length (t .rows) → lastRow space ≡ getD written (length (t .rows) - 1) []
+  pub last-is : 0 < length (t .rows) → lastRow space ≡ getD written (length (t .rows) - 1) []
   unfolding lastRow wordsOf
   last-is h =
       let k = length (t .rows) - 1 in
