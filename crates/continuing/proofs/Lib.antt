@@ -1,1 +1,2 @@
+pub mod LoadsExactly
 pub mod Saved
