@@ -55,7 +55,7 @@ pub fn total_bound(clock: &[u32]) -> u64
 }
 
 // A total's two words as one number.
-fn code_of(words: &[u32]) -> u64
+pub fn code_of(words: &[u32]) -> u64
     requires { ⌜ length (now words) ≡ 2 ⌝ }
     ensures { λ r. ⌜ r ≡ ofTwoWords (getD (now (words .entry)) 0 0) (getD (now (words .entry)) 1 0) ⌝ }
 {
@@ -63,7 +63,7 @@ fn code_of(words: &[u32]) -> u64
 }
 
 // Whether an object of this kind may have the total of this code.
-fn total_ok(kind: u32, code: u64, bound: u64) -> bool
+pub fn total_ok(kind: u32, code: u64, bound: u64) -> bool
     ensures { λ r. ⌜ r ≡ totalKept bound kind (ofComplement code) ⌝ }
 {
     if code < NEGATIVE_FROM {
@@ -101,7 +101,7 @@ pub fn each_total_ok(kinds: &[u32], totals: &[u32], bound: u64) -> bool
 }
 
 // Whether one station's vector of the last frame accepted is what the clock allows.
-fn last_ok(vector: &[u32], clock: &[u32], station: Station, own: Station) -> bool
+pub fn last_ok(vector: &[u32], clock: &[u32], station: Station, own: Station) -> bool
     requires { ⌜ length (now vector) ≡ length (now clock) ⌝ }
     ensures { λ r. ⌜ r ≡ lastKept (own .0) (now (clock .entry)) (station .0) (now (vector .entry)) ⌝ }
 {

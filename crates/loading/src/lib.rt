@@ -1,13 +1,36 @@
-// A saved form read a line at a time into lent words. A wrong line leaves zeros; the closing line asks whether the words are a table.
+// A saved form read a line at a time into lent words: which line comes next, and that line taken. Any words will do, and any line.
 ghost use mathlib.Core.Path.{_≡_};
+ghost use mathlib.Core.Bool.{true};
+ghost use Prim.Native.Nat.{_≤_};
+ghost use lib.ListN.{length};
+ghost use Rattle.layout.specs.Layout.{clockAt};
+ghost use Rattle.heard.specs.Hearing.{bytesOf};
+ghost use Rattle.spoken.specs.Spoken.{openedBy};
+ghost use Rattle.taking.specs.LoadHead.{LoadHead};
+ghost use Rattle.loading.specs.Loading.{begun, behindLasts, firstTaken, headLoads, loadEnded, loadWaits, loadedBy, nextIn, takenAs, underLoad, waits};
+use forms::Sought;
+use layout::CAPACITY_AT;
+use layout::CLOCK_AT;
+use layout::COUNT_AT;
+use layout::KINDS_AT;
+use layout::LOADING_AT;
+use layout::MARK_AT;
+use layout::OBJECTS_AT;
+use layout::OWN_AT;
+use layout::SIZE_AT;
+use layout::TABLE_MARK;
+use ranges::GREATEST_KIND;
+use spoken::MISSHAPEN;
+use spoken::Opened;
+use tags::RowCount;
 use tags::Station;
+use taking::Loaded;
+use taking::WRONG;
 
-// What a line of a form gets: a refusal's number, nothing but that it is taken, or that it closes the form and the table is there.
-pub enum Loaded {
-    Refused(u32),
-    Taken,
-    Table,
-}
+// The progress of a load whose opening line was taken, and of one that has D too.
+const OPENED: u32 = 1;
+
+const CLOCKED: usize = 2;
 
 // What comes next in a form: D, a station's last vector, a counter's total, a row or the closing line, or nothing that a load waits for.
 pub enum Next {
@@ -16,4 +39,174 @@ pub enum Next {
     Total(usize),
     Rows,
     Nothing,
+}
+
+// What comes next behind the last vectors.
+fn behind_lasts(found: Sought) -> Next
+    ensures { λ r. ⌜ r ≡ behindLasts found ⌝ }
+{
+    match found {
+        Sought::At(object) => Next::Total(object),
+        Sought::Behind(more) => {
+            if more == 0 {
+                return Next::Rows;
+            }
+            Next::Nothing
+        }
+    }
+}
+
+// What comes next.
+fn next_in(space: &[u32]) -> Next
+    requires { ⌜ LoadHead (now space) ⌝ }
+    ensures { λ r. ⌜ r ≡ nextIn (now (space .entry)) ⌝ }
+{
+    if space[LOADING_AT] == rules::IDLE {
+        return Next::Nothing;
+    }
+    if space[LOADING_AT] == OPENED {
+        return Next::Clock;
+    }
+    let progress = tags::wide(space[LOADING_AT]);
+    let size = tags::wide(space[SIZE_AT]);
+    if progress <= size {
+        return Next::Last(forms::other(Station(space[OWN_AT]), (progress - CLOCKED) as u32));
+    }
+    let end = KINDS_AT + tags::wide(space[OBJECTS_AT]);
+    behind_lasts(forms::counter(&space[KINDS_AT..end], progress - (size + 1)))
+}
+
+// Whether something comes next, with no row taken before its turn.
+fn waits_for(next: Next, rows: RowCount) -> bool
+    ensures { λ r. ⌜ r ≡ waits next (rows .0) ⌝ }
+{
+    match next {
+        Next::Clock => rows.0 == 0,
+        Next::Last(station) => rows.0 == 0,
+        Next::Total(object) => rows.0 == 0,
+        Next::Rows => true,
+        Next::Nothing => false,
+    }
+}
+
+// Whether the head is that of a table which the space has room for.
+fn head_loads(space: &[u32]) -> bool
+    requires { ⌜ clockAt ≤ length (now space) ⌝ }
+    ensures { λ r. ⌜ r ≡ headLoads (now (space .entry)) ⌝ }
+{
+    if space[MARK_AT] != TABLE_MARK {
+        return false;
+    }
+    if rules::sizes_ok(
+        space[SIZE_AT],
+        Station(space[OWN_AT]),
+        RowCount(space[CAPACITY_AT]),
+        space[OBJECTS_AT],
+        RowCount(space[COUNT_AT]),
+    ) {
+        return rules::has_room(space);
+    }
+    false
+}
+
+// Whether the kinds are known ones and something comes next.
+fn load_waits(space: &[u32]) -> bool
+    requires { ⌜ LoadHead (now space) ⌝ }
+    ensures { λ r. ⌜ r ≡ loadWaits (now (space .entry)) ⌝ }
+{
+    let end = KINDS_AT + tags::wide(space[OBJECTS_AT]);
+    if rules::all_in_range(&space[KINDS_AT..end], 1, GREATEST_KIND) {
+        return waits_for(next_in(space), RowCount(space[COUNT_AT]));
+    }
+    false
+}
+
+// Whether the words are those of a load under way, whatever they are and however many.
+fn under_load(space: &[u32]) -> bool
+    ensures { λ r. ⌜ r ≡ underLoad (now (space .entry)) ⌝ }
+{
+    if space.len() < CLOCK_AT {
+        return false;
+    }
+    if head_loads(space) {
+        return load_waits(space);
+    }
+    false
+}
+
+// The bytes of a line to a space under load, by what comes next.
+fn take_bytes(space: &mut [u32], bytes: &[u8]) -> Loaded
+    requires { ⌜ underLoad (now space) ≡ true ⌝ }
+    ensures { λ r. ⌜ (r, now (space .exit)) ≡ takenAs (nextIn (now (space .entry))) (now (bytes .entry)) (now (space .entry)) ⌝ }
+{
+    match next_in(space) {
+        Next::Clock => taking::take_clock(space, bytes),
+        Next::Last(station) => taking::take_last(space, bytes, station),
+        Next::Total(object) => taking::take_total(space, bytes, object),
+        Next::Rows => taking::take_row_or_close(space, bytes),
+        Next::Nothing => taking::spoil(space),
+    }
+}
+
+// A line to a space under load.
+fn take_line(space: &mut [u32], line: &[u8]) -> Loaded
+    requires { ⌜ underLoad (now space) ≡ true ⌝ }
+    ensures { λ r. ⌜ (r, now (space .exit)) ≡ takenAs (nextIn (now (space .entry))) (bytesOf (now (line .entry))) (now (space .entry)) ⌝ }
+{
+    let mut bytes = [0u8; lines::LONGEST];
+    let n = heard::hear(line, &mut bytes);
+    take_bytes(space, &bytes[0..n])
+}
+
+// An opening line begins a load: the fresh table is marked as one under load.
+fn begin(space: &mut [u32], line: &[u8]) -> Loaded
+    ensures { λ r. ⌜ (r, now (space .exit)) ≡ begun (openedBy (now (line .entry)) (now (space .entry))) ⌝ }
+{
+    match spoken::open_line(space, line) {
+        Opened::Refused(number) => Loaded::Refused(number),
+        Opened::Fresh => {
+            space[LOADING_AT] = OPENED;
+            Loaded::Taken
+        }
+    }
+}
+
+// A line when no load is under way.
+fn first_line(space: &mut [u32], line: &[u8]) -> Loaded
+    ensures { λ r. ⌜ (r, now (space .exit)) ≡ firstTaken (now (line .entry)) (now (space .entry)) ⌝ }
+{
+    let byte = heard::type_of(line);
+    if byte == lines::OPENING {
+        return begin(space, line);
+    }
+    if byte < lines::CLOCK {
+        return Loaded::Refused(MISSHAPEN);
+    }
+    if lines::CLOSING < byte {
+        return Loaded::Refused(MISSHAPEN);
+    }
+    Loaded::Refused(WRONG)
+}
+
+// The next line of a form to a space: taken, refused with its number, or the one that makes the space a table.
+pub fn load_line(space: &mut [u32], line: &[u8]) -> Loaded
+    ensures { λ r. ⌜ (r, now (space .exit)) ≡ loadedBy (now (line .entry)) (now (space .entry)) ⌝ }
+{
+    if under_load(space) {
+        return take_line(space, line);
+    }
+    first_line(space, line)
+}
+
+// The end of a form: nothing where its table is there, zeros where the load is not closed.
+pub fn load_end(space: &mut [u32]) -> Loaded
+    ensures { λ r. ⌜ (r, now (space .exit)) ≡ loadEnded (now (space .entry)) ⌝ }
+{
+    if rules::is_table(space) {
+        return Loaded::Table;
+    }
+    if under_load(space) {
+        return taking::spoil(space);
+    }
+    Loaded::Refused(WRONG)
 }

@@ -33,7 +33,7 @@ module _ (kinds before row : List ℕ) (k : ℕ) (e : k ≡ getD kinds (getD row
     follows-new four r s t = lower ∙ rw (← e, four, sym s ∙ t, take-all 7 before (omega arith), take-all 7 row (omega arith)) refl
 
 -- the keys decide
-by-keys : (kinds x y : List ℕ) (w : ℕ) → 7 ≤ w → follows kinds (take 7 x) (take 7 y) ≡ follows kinds (take w x) (take w y)
+pub by-keys : (kinds x y : List ℕ) (w : ℕ) → 7 ≤ w → follows kinds (take 7 x) (take 7 y) ≡ follows kinds (take w x) (take w y)
 unfolding follows
 by-keys kinds x y w h =
     rw (getD-take 7 y 0 0 (omega arith), getD-take w y 0 0 (omega arith), take-take 3 7 x (omega arith), take-take 3 7 y (omega arith), take-take 7 7 x (omega arith), take-take 7 7 y (omega arith), take-take 3 w x (omega arith), take-take 3 w y (omega arith), take-take 7 w x h, take-take 7 w y h) refl

@@ -124,7 +124,7 @@ fn unsettled_ok(row: &[u32], clock: &[u32]) -> bool
 }
 
 // Whether a row keeps the rules that ask nothing of other rows.
-fn row_ok(row: &[u32], kinds: &[u32], clock: &[u32]) -> bool
+pub fn row_ok(row: &[u32], kinds: &[u32], clock: &[u32]) -> bool
     requires { ⌜ length (now row) ≡ rowWidth (length (now clock)) ⌝ }
     ensures { λ r. ⌜ r ≡ rowKept (now (kinds .entry)) (now (clock .entry)) (now (row .entry)) ⌝ }
 {
@@ -169,7 +169,7 @@ fn has_same_value(before: &[u32], row: &[u32]) -> bool
 }
 
 // Whether a row may come next after another, by the first seven words of each.
-fn may_follow(before: &[u32], row: &[u32], kinds: &[u32]) -> bool
+pub fn may_follow(before: &[u32], row: &[u32], kinds: &[u32]) -> bool
     requires { ⌜ (length (now before) ≡ keyWords) × (length (now row) ≡ keyWords) ⌝ }
     ensures { λ r. ⌜ r ≡ follows (now (kinds .entry)) (now (before .entry)) (now (row .entry)) ⌝ }
 {

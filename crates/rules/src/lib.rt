@@ -28,10 +28,10 @@ use tags::RowCount;
 use tags::Station;
 
 // What the seventh word holds when no load is under way.
-const IDLE: u32 = 0;
+pub const IDLE: u32 = 0;
 
 // Whether every word is from the least to the greatest.
-fn all_in_range(words: &[u32], least: u32, greatest: u32) -> bool
+pub fn all_in_range(words: &[u32], least: u32, greatest: u32) -> bool
     ensures { λ r. ⌜ r ≡ every (between least greatest) (now (words .entry)) ⌝ }
 {
     let mut good = true;
@@ -46,7 +46,7 @@ fn all_in_range(words: &[u32], least: u32, greatest: u32) -> bool
 }
 
 // Whether the head's numbers are in range.
-fn sizes_ok(size: u32, own: Station, capacity: RowCount, objects: u32, count: RowCount) -> bool
+pub fn sizes_ok(size: u32, own: Station, capacity: RowCount, objects: u32, count: RowCount) -> bool
     ensures { λ r. ⌜ r ≡ sizesKept size (own .0) (capacity .0) objects (count .0) ⌝ }
 {
     let most = capacity.0;
@@ -66,7 +66,7 @@ fn sizes_ok(size: u32, own: Station, capacity: RowCount, objects: u32, count: Ro
 }
 
 // Whether the words are enough for the table that the head describes.
-fn has_room(s: &[u32]) -> bool
+pub fn has_room(s: &[u32]) -> bool
     requires { ⌜ (103 ≤ length (now s)) × (sizeIn (now s) ≤ 16) × (capacityIn (now s) ≤ 512) ⌝ }
     ensures { λ r. ⌜ r ≡ leb (spaceFor (sizeIn (now (s .entry))) (capacityIn (now (s .entry)))) (length (now (s .entry))) ⌝ }
 {
