@@ -1,6 +1,7 @@
 pub mod Tested
 pub mod Falling
 pub mod Answering
+pub mod Counting
 pub mod Shaping
 pub mod ExactlyWhen
 pub mod FrameBack

@@ -1,0 +1,50 @@
+use Rattle.judging.proofs.Judging.{closed-ended, open-ended, refused-ended}
+use native.Mathlib.Omega.{arith}
+use borrow.Author.Needs.{needs}
+use Rattle.judging.proofs.judge_end.Statement.{statement}
+use Rattle.judging.proofs.judge_end.Tie as tie
+use Rattle.judging.proofs.judge_end.Reads as reads
+use Rattle.judging.proofs.judge_end.Lts as lts
+use Rattle.judging.proofs.verdict.Reads as verdict-reads
+use Rattle.loading.proofs.load_end.Reads as load-end-reads
+
+enum-told : tie.Need-enum-told
+enum-told c = search needs
+
+load-end-requires : tie.Need-load-end-requires
+load-end-requires c κs = search needs
+
+verdict-requires : tie.Need-verdict-requires
+verdict-requires c κs = search needs
+
+enum-told-2 : tie.Need-enum-told-2
+enum-told-2 c = search needs
+
+enum-known-before : tie.Need-enum-known-before
+enum-known-before c = search needs
+
+same-length : tie.Need-same-length
+same-length c = search needs
+
+returns : tie.Need-returns
+returns c = search open-ended
+
+returns-2 : tie.Need-returns-2
+returns-2 c = search closed-ended
+
+returns-3 : tie.Need-returns-3
+returns-3 c = search refused-ended
+
+pub judge-end-spec : {M : Type 1} → statement M
+judge-end-spec =
+    tie.close
+    (tie.spec
+    enum-told
+    load-end-requires
+    verdict-requires
+    enum-told-2
+    enum-known-before
+    same-length
+    returns
+    returns-2
+    returns-3)

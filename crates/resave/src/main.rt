@@ -1,0 +1,141 @@
+// The second program: one saved form on standard input, the same form or one `ff` line on standard output, as `judging` says.
+ghost use mathlib.Core.Path.{_≡_};
+ghost use Prim.Native.Nat.{_≤_};
+ghost use lib.ListN.{length};
+ghost use Rattle.judging.specs.Judging.{judgedBy};
+ghost use Rattle.keeping.specs.Feeding.{fed, Going, heldFed, heldTaken, LastPiece, taken, WholeLines};
+ghost use Rattle.ranges.specs.Spaces.{mostWords};
+ghost use Rattle.resave.specs.Ending.{StillGoing};
+use calls::Answered;
+use judging::Judged;
+use libc::STDIN_FILENO;
+use libc::STDOUT_FILENO;
+
+// The words of the greatest table: 16 stations, 512 rows.
+const MOST_WORDS: usize = 12151;
+
+// The characters of the longest line. Of a longer one so many are kept, which get what the whole line gets (law `line-answered` of `keeping`).
+const LINE: usize = 2 * lines::LONGEST + 1;
+
+// The lines of the longest form: its opening, D, 15 last vectors, 32 totals, 512 rows, its closing line.
+const MOST_LINES: usize = 562;
+
+// What is kept from one byte of input to the next: so many characters of a line, and what is known of the form.
+struct Kept {
+    have: usize,
+    known: Judged,
+}
+
+// One byte of input: it joins the line, and ends it if it is LF. No more is kept than the space holds.
+fn take(space: &mut [u32], line: &mut [u8], kept: Kept, b: u8) -> Kept
+    requires { ⌜ kept .have ≤ length (now line) ⌝ }
+    ensures { λ r. ⌜ ((r .have, now (line .exit)) ≡ taken (now (line .entry)) (kept .have) b)
+        × (((r .known, now (space .exit)) ≡ heldTaken judgedBy (now (line .entry)) (kept .have) (kept .known, now (space .entry)) b)
+        × (r .have ≤ length (now (line .exit)))) ⌝ }
+{
+    let have = hexes::keep(line, kept.have, b);
+    let known = kept.known;
+    if b != hexes::LF {
+        return Kept { have, known };
+    }
+    let after = judging::judge(space, &line[0..have], known);
+    Kept {
+        have: 0,
+        known: after,
+    }
+}
+
+// The bytes of one read. Whole lines are judged, though the space keeps only so much of a long one.
+fn feed(space: &mut [u32], line: &mut [u8], from: Kept, chunk: &[u8]) -> Kept
+    requires { ⌜ Going (now line) (from .have) ⌝ }
+    ensures { λ r. ⌜ ((r .have, now (line .exit)) ≡ fed (now (line .entry)) (from .have) (now (chunk .entry)))
+        × (((r .known, now (space .exit)) ≡ heldFed judgedBy (now (line .entry)) (from .have) (from .known, now (space .entry)) (now (chunk .entry)))
+        × (WholeLines judgedBy (now (line .entry)) (from .have) (from .known, now (space .entry)) (now (chunk .entry)) (r .known, now (space .exit))
+        × Going (now (line .exit)) (r .have))) ⌝ }
+{
+    let mut have = from.have;
+    let mut known = from.known;
+    let mut i = 0;
+    while i < chunk.len() {
+        let kept = take(space, line, Kept { have, known }, chunk[i]);
+        have = kept.have;
+        known = kept.known;
+        i += 1;
+    }
+    Kept { have, known }
+}
+
+// What comes of a read: what is kept of input that goes on, or its end.
+enum More {
+    Yes(Kept),
+    End,
+}
+
+// One read, and its bytes.
+fn some(space: &mut [u32], line: &mut [u8], from: Kept) -> More
+    requires { ⌜ (length (now space) ≡ mostWords) × Going (now line) (from .have) ⌝ }
+    ensures { λ r. ⌜ StillGoing (from .have) (now (line .exit)) r ⌝ }
+{
+    let mut buffer = io::large_buffer();
+    let got = libc::read(STDIN_FILENO, &mut buffer);
+    if got <= 0 {
+        return More::End;
+    }
+    let n = io::count(got, &buffer);
+    More::Yes(feed(space, line, from, &buffer[..n]))
+}
+
+// The input is at its end: a last piece without LF is a line too.
+fn end(space: &mut [u32], line: &[u8], kept: Kept) -> Judged
+    requires { ⌜ Going (now line) (kept .have) ⌝ }
+    ensures { λ r. ⌜ LastPiece judgedBy (now (line .entry)) (kept .have) (kept .known, now (space .entry)) (r, now (space .exit)) ⌝ }
+{
+    let have = kept.have;
+    let known = kept.known;
+    if have == 0 {
+        return known;
+    }
+    judging::judge(space, &line[0..have], known)
+}
+
+// Every output line for a form that is at its end, until one can't be written.
+fn print(space: &mut [u32], known: Judged) {
+    let mut out = [0u8; calls::LONGEST_ANSWER];
+    let mut k = 0;
+    while k < MOST_LINES {
+        match judging::resave(space, known, k, &mut out) {
+            Answered::Line(n) => {
+                if !io::write_all(STDOUT_FILENO, &out[0..n]) {
+                    return;
+                }
+            }
+            Answered::End => {
+                return;
+            }
+        }
+        k += 1;
+    }
+}
+
+fn main() {
+    let mut space = [0u32; MOST_WORDS];
+    let mut line = [0u8; LINE];
+    let mut have: usize = 0;
+    let mut known = Judged::Open;
+    let mut turns = u64::MAX;
+    while turns > 0 {
+        match some(&mut space, &mut line, Kept { have, known }) {
+            More::Yes(kept) => {
+                have = kept.have;
+                known = kept.known;
+            }
+            More::End => {
+                let last = end(&mut space, &line, Kept { have, known });
+                let whole = judging::judge_end(&mut space, last);
+                print(&mut space, whole);
+                return;
+            }
+        }
+        turns -= 1;
+    }
+}
