@@ -182,7 +182,7 @@ module _ (line words out : List ℕ) (t : typeOf line ≡ 96) (room : 149 ≤ le
     form-refused number h a z p = let q = prints-as (saved.Refused number) h in p ∙ ap₂ (λ (l : List (List ℕ)) (x : List ℕ). printedAt l k x) (sym (q .1)) (q .0)
 
 -- a `60` line is of type `60`
-starts-type : (n kind : ℕ) (line : List ℕ) → startsWith kind (pairs (suc n) line) ≡ true → typeOf line ≡ kind
+pub starts-type : (n kind : ℕ) (line : List ℕ) → startsWith kind (pairs (suc n) line) ≡ true → typeOf line ≡ kind
 unfolding pairs pairOf typeOf startsWith
 starts-type n kind [] e = absurd (false≢true e)
 starts-type n kind (h ∷ []) e = absurd (false≢true e)

@@ -10,6 +10,7 @@ use Rattle.meaning.specs.Operations.{Operation}
 use Rattle.meaning.specs.Rows.{Row, unsettledCount}
 use Rattle.meaning.specs.Table.{Header, Table, inRange, isTable, opened}
 use Rattle.meaning.specs.Refusals.{Frame, Local, refusalOfFrame, refusalOfLocal, refusalOfSettling, settlingRefusals, issuedBy, firstOf, openingRefusals}
+use Rattle.meaning.specs.Questions.{Asked}
 use Rattle.meaning.specs.Calls as meaning
 use Rattle.meaning.specs.Calls.{Outcome, outcome, afterArrival, withRows, rowsSettled, steps, meant}
 use Rattle.meaning.specs.History as history
@@ -154,6 +155,39 @@ calls-hold (call ∷ rest) words station H =
     subst (λ (s : Station). Holds (wordsAfterAll rest (wordsAfter call words)) s) (sym (after-both (eventsOf call words) (eventsOfAll rest (wordsAfter call words)) station))
     (calls-hold rest (wordsAfter call words) (afterAll (eventsOf call words) station) (call-holds words station H call))
 
+-- the words of a space's rows are those of the rows that it holds
+rows-spelt : (s : List ℕ) → Checked s → rowsIn s ≡ map (rowWords (tableOf s .header .size)) (tableOf s .rows)
+unfolding tableOf
+rows-spelt s K = sym (map-back rowOf (rowWords (sizeIn s)) (rowsIn s) (each-spelt s (K .laid)))
+
+-- a space that holds what the meaning reaches answers as the definitions say
+module _ (header : Header) (ranged : inRange header ≡ true) (events : List Event) (now : List ℕ) (H : Holds now (reached header events)) where
+  pub reply-meant : (room : ℕ) (asked : Asked) → meaning.ask (tableOf now) room asked ≡ meant header (reached header events .accepted) room asked
+  reply-meant room asked = ap (λ (t : Table). meaning.ask t room asked) (H .table-is) ∙ demand3.every-answer header events ranged room asked
+
+  -- and so does another with the same objects that accepted the same operations
+  module _ (other : Header) (ranged′ : inRange other ≡ true) (happened : List Event) (there : List ℕ) (H′ : Holds there (reached other happened))
+      (objects : header .kinds ≡ other .kinds)
+      (to : Within (reached header events .accepted) (reached other happened .accepted))
+      (from : Within (reached other happened .accepted) (reached header events .accepted)) where
+    pub reply-agrees : (room : ℕ) (asked : Asked) → meaning.ask (tableOf now) room asked ≡ meaning.ask (tableOf there) room asked
+    reply-agrees room asked =
+        ap (λ (t : Table). meaning.ask t room asked) (H .table-is)
+        ∙ agreement.equal-answers header other events happened ranged ranged′ objects to from room asked
+        ∙ sym (ap (λ (t : Table). meaning.ask t room asked) (H′ .table-is))
+
+    pub rows-agree : header .size ≡ other .size → unsettledCount (tableOf now .rows) ≡ 0 → unsettledCount (tableOf there .rows) ≡ 0 → rowsIn now ≡ rowsIn there
+    rows-agree sizes none none′ =
+        let same : tableOf now .rows ≡ tableOf there .rows =
+        ap (λ (t : Table). t .rows) (H .table-is)
+        ∙ agreement.equal-rows header other events happened ranged ranged′ objects to from
+        (sym (ap (λ (t : Table). unsettledCount (t .rows)) (H .table-is)) ∙ none) (sym (ap (λ (t : Table). unsettledCount (t .rows)) (H′ .table-is)) ∙ none′)
+        ∙ sym (ap (λ (t : Table). t .rows) (H′ .table-is)) in
+        let size : tableOf now .header .size ≡ tableOf there .header .size =
+        ap (λ (t : Table). t .header .size) (H .table-is) ∙ ap (λ (h : Header). h .size) (demand3.reached-sound header events ranged .same-header) ∙ sizes
+        ∙ sym (ap (λ (t : Table). t .header .size) (H′ .table-is) ∙ ap (λ (h : Header). h .size) (demand3.reached-sound other happened ranged′ .same-header)) in
+        rows-spelt now (checked now (H .held)) ∙ ap₂ (λ (n : ℕ) (rows : List Row). map (rowWords n) rows) size same ∙ sym (rows-spelt there (checked there (H′ .held)))
+
 -- an opening that is taken
 isFresh : Opened → Bool
 isFresh (called.Refused number) = false
@@ -219,8 +253,7 @@ module _ (line before words : List ℕ) (e : openedBy line before ≡ (called.Fr
         let asked = askedFrom (questionRead (bytesOf question) .object) (questionRead (bytesOf question) .question) (questionRead (bytesOf question) .value) in
         picked (holdsTable now-words) (repliedOn question now-words out) (reply.Refused 14, out) (holds-reached .held)
         ∙ picked (questionRead (bytesOf question) .ok) (replied (meaning.ask (tableOf now-words) (length out) asked) out) (reply.Refused 1, out) ok
-        ∙ ap (λ (t : Table). replied (meaning.ask t (length out) asked) out) (holds-reached .table-is)
-        ∙ ap (λ (r : meaning.Reply). replied r out) (demand3.every-answer header (eventsOfAll list words) opening-in-range (length out) asked)
+        ∙ ap (λ (r : meaning.Reply). replied r out) (reply-meant header opening-in-range (eventsOfAll list words) now-words holds-reached (length out) asked)
 
 -- two spaces, each opened and used by any calls, whose stations have the same objects and have accepted the same operations
 module _ (line before words : List ℕ) (e : openedBy line before ≡ (called.Fresh, words)) (list : List Call)
@@ -245,31 +278,15 @@ module _ (line before words : List ℕ) (e : openedBy line before ≡ (called.Fr
   unfolding repliedBy repliedOn
   equal-answers question out =
       let asked = askedFrom (questionRead (bytesOf question) .object) (questionRead (bytesOf question) .question) (questionRead (bytesOf question) .value) in
-      let same : meaning.ask (tableOf here) (length out) asked ≡ meaning.ask (tableOf there) (length out) asked = ap (λ (t : Table). meaning.ask t (length out) asked) (H .table-is)
-      ∙ agreement.equal-answers (headerRead (bytesOf line)) (headerRead (bytesOf line′)) (eventsOfAll list words) (eventsOfAll list′ words′) (opening-in-range line before words e) (opening-in-range line′ before′ words′ e′) objects to from (length out) asked
-      ∙ sym (ap (λ (t : Table). meaning.ask t (length out) asked) (H′ .table-is)) in
+      let same : meaning.ask (tableOf here) (length out) asked ≡ meaning.ask (tableOf there) (length out) asked =
+      reply-agrees (headerRead (bytesOf line)) (opening-in-range line before words e) (eventsOfAll list words) here H
+      (headerRead (bytesOf line′)) (opening-in-range line′ before′ words′ e′) (eventsOfAll list′ words′) there H′ objects to from (length out) asked in
       picked (holdsTable here) (repliedOn question here out) (reply.Refused 14, out) (H .held)
       ∙ ap (λ (r : meaning.Reply). pick (questionRead (bytesOf question) .ok) (replied r out) (reply.Refused 1, out)) same
       ∙ sym (picked (holdsTable there) (repliedOn question there out) (reply.Refused 14, out) (H′ .held))
 
-  -- the words of a space's rows are those of the rows that it holds
-  rows-spelt : (s : List ℕ) → Checked s → rowsIn s ≡ map (rowWords (tableOf s .header .size)) (tableOf s .rows)
-  unfolding tableOf
-  rows-spelt s K = sym (map-back rowOf (rowWords (sizeIn s)) (rowsIn s) (each-spelt s (K .laid)))
-
   -- "fully settled ones hold the same bytes": in groups of one size the words of their rows are the same
   pub equal-rows : headerRead (bytesOf line) .size ≡ headerRead (bytesOf line′) .size → unsettledCount (tableOf here .rows) ≡ 0 → unsettledCount (tableOf there .rows) ≡ 0 → rowsIn here ≡ rowsIn there
   equal-rows sizes none none′ =
-      let header = headerRead (bytesOf line) in
-      let other = headerRead (bytesOf line′) in
-      let events = eventsOfAll list words in
-      let happened = eventsOfAll list′ words′ in
-      let same : tableOf here .rows ≡ tableOf there .rows =
-      ap (λ (t : Table). t .rows) (H .table-is)
-      ∙ agreement.equal-rows header other events happened (opening-in-range line before words e) (opening-in-range line′ before′ words′ e′) objects to from
-      (sym (ap (λ (t : Table). unsettledCount (t .rows)) (H .table-is)) ∙ none) (sym (ap (λ (t : Table). unsettledCount (t .rows)) (H′ .table-is)) ∙ none′)
-      ∙ sym (ap (λ (t : Table). t .rows) (H′ .table-is)) in
-      let size : tableOf here .header .size ≡ tableOf there .header .size =
-      ap (λ (t : Table). t .header .size) (H .table-is) ∙ ap (λ (h : Header). h .size) (demand3.reached-sound header events (opening-in-range line before words e) .same-header) ∙ sizes
-      ∙ sym (ap (λ (t : Table). t .header .size) (H′ .table-is) ∙ ap (λ (h : Header). h .size) (demand3.reached-sound other happened (opening-in-range line′ before′ words′ e′) .same-header)) in
-      rows-spelt here (checked here (H .held)) ∙ ap₂ (λ (n : ℕ) (rows : List Row). map (rowWords n) rows) size same ∙ sym (rows-spelt there (checked there (H′ .held)))
+      rows-agree (headerRead (bytesOf line)) (opening-in-range line before words e) (eventsOfAll list words) here H
+      (headerRead (bytesOf line′)) (opening-in-range line′ before′ words′ e′) (eventsOfAll list′ words′) there H′ objects to from sizes none none′

@@ -67,7 +67,7 @@ module _ {A S : Type 0} (number : A → ℕ) (refuse : ℕ → A) (conditions : 
         (λ q. let f : call ≡ result = e ∙ rw q refl in ap (λ (p : A × S). number (p .0)) f ∙ z ∙ sym (eqb-true first 0 q))
         (λ q. let f : call ≡ (refuse first, before) = e ∙ rw q refl in ap (λ (p : A × S). number (p .0)) f ∙ numbered first)
 
-    exactly : distinct conditions ≡ true → Exactly number refuse (map (λ (refusal : Refusal). refusal .number) conditions) conditions before result call
+    pub exactly : distinct conditions ≡ true → Exactly number refuse (map (λ (refusal : Refusal). refusal .number) conditions) conditions before result call
     exactly d =
         let when = exact conditions d in
         record {
@@ -91,7 +91,7 @@ module _ (line words : List ℕ) where
   abbrev opens : ℕ → Opened × List ℕ
   opens r = cond (eqb r 0) (openResult line words) (opened.Refused r, words)
 
-  open-told : openedBy line words ≡ opens (firstOf (openConditions line words))
+  pub open-told : openedBy line words ≡ opens (firstOf (openConditions line words))
   unfolding openedBy openConditions openResult openedAs meaning.openTable openingRefusals tables.opened
   open-told = by (openingRead (bytesOf line) .ok) wrong ∙ ap (λ (b : Bool). opens (cond (not b) 1 (cond wrong 13 0))) (opening-shaped line)
     where

@@ -17,9 +17,7 @@ use Rattle.meaning.specs.Calls.{afterArrival, outcome}
 use Rattle.meaning.specs.History as history
 use Rattle.meaning.specs.History.{Event, Station, after, afterAll, afterOutcome, afterSettling, reached}
 use Rattle.meaning.proofs.Tests.{cases}
-use Rattle.meaning.proofs.Demand3 as demand3
 use Rattle.meaning.proofs.TableFacts.{facts}
-use Rattle.meaning.proofs.Agreement as agreement
 use Rattle.meaning.proofs.Agreement.{Within}
 use Rattle.layout.specs.Layout.{holdsTable, rowsIn, tableOf}
 use Rattle.allowing.specs.Asking.{askedFrom}
@@ -58,8 +56,7 @@ use Rattle.calls.specs.Calls.{receivedBy, settledBy}
 use Rattle.calls.specs.Station.{Call, receives, issues, settles, wordsAfter, wordsAfterAll, frameFits, eventsOf, eventsOfAll}
 use Rattle.calls.specs.Lines.{OpenedBy, acceptedBy, acceptedByAll, callsOf, callsOfAll, isDone, linesAfter, meantAnswer, offeredBy}
 use Rattle.spoken.proofs.Receiving.{picked}
-use Rattle.calls.proofs.Calling as calling
-use Rattle.calls.proofs.Calling.{Holds, after-both, calls-hold, holds-reached, opening-in-range}
+use Rattle.calls.proofs.Calling.{Holds, after-both, calls-hold, holds-reached, opening-in-range, reply-agrees, reply-meant, rows-agree}
 
 -- a refusal is none of `00`
 refusal-not-done : (number : ℕ) → isDone (refusalBytes number) ≡ false
@@ -134,7 +131,7 @@ unfolding tableOf
 size-few words K = K .few
 
 -- a question line at a table
-question-on : (line words : List ℕ) → holdsTable words ≡ true → typeOf line ≡ question .typeByte → answerOf line words ≡ (questionAnswer line words, words)
+pub question-on : (line words : List ℕ) → holdsTable words ≡ true → typeOf line ≡ question .typeByte → answerOf line words ≡ (questionAnswer line words, words)
 unfolding answerOn
 question-on line words held type = on-table line words held ∙ rw type refl
 
@@ -312,9 +309,9 @@ module _ (line before words : List ℕ) (O : OpenedBy line before words) where
   abbrev header : Header
   header = headerRead (bytesOf line)
 
-  start : Holds words (reached header [])
+  pub opened-holds : Holds words (reached header [])
   unfolding wordsAfterAll eventsOfAll
-  start = holds-reached line before words opened-fresh []
+  opened-holds = holds-reached line before words opened-fresh []
 
   module _ (lines : List (List ℕ)) where
     abbrev now : List ℕ
@@ -327,11 +324,11 @@ module _ (line before words : List ℕ) (O : OpenedBy line before words) where
     events = eventsOfAll (callsOfAll lines) words
 
     now-is : now ≡ wordsAfterAll (callsOfAll lines) words
-    now-is = lines-words lines words (reached header []) start
+    now-is = lines-words lines words (reached header []) opened-holds
 
     accepted-is : reached header events .accepted ≡ accepted
     unfolding reached afterAll
-    accepted-is = lines-accepted lines words (reached header []) start
+    accepted-is = lines-accepted lines words (reached header []) opened-holds
 
     pub lines-hold : Holds now (reached header events)
     lines-hold = subst (λ (w : List ℕ). Holds w (reached header events)) (sym now-is) (holds-reached line before words opened-fresh (callsOfAll lines))
@@ -342,9 +339,7 @@ module _ (line before words : List ℕ) (O : OpenedBy line before words) where
     every-answer asking type =
         let asked = askedFrom (questionRead (bytesOf asking) .object) (questionRead (bytesOf asking) .question) (questionRead (bytesOf asking) .value) in
         let reply : meaning.ask (tableOf now) 512 asked ≡ meaning.meant header accepted 512 asked =
-        ap (λ (t : Table). meaning.ask t 512 asked) (lines-hold .table-is)
-        ∙ demand3.every-answer header events (opening-in-range line before words opened-fresh) 512 asked
-        ∙ ap (λ (l : List Operation). meaning.meant header l 512 asked) accepted-is in
+        reply-meant header (opening-in-range line before words opened-fresh) events now lines-hold 512 asked ∙ ap (λ (l : List Operation). meaning.meant header l 512 asked) accepted-is in
         question-on asking now (lines-hold .held) type
         ∙ ap (λ (r : meaning.Reply). (pick (questionRead (bytesOf asking) .ok) (replyBytes r) (refusalBytes 1), now)) reply
 
@@ -384,10 +379,8 @@ module _ (line before words : List ℕ) (O : OpenedBy line before words) (lines 
   equal-answers asking type =
       let asked = askedFrom (questionRead (bytesOf asking) .object) (questionRead (bytesOf asking) .question) (questionRead (bytesOf asking) .value) in
       let reply : meaning.ask (tableOf here) 512 asked ≡ meaning.ask (tableOf there) 512 asked =
-      ap (λ (t : Table). meaning.ask t 512 asked) (H .table-is)
-      ∙ agreement.equal-answers (header line before words O) (header line′ before′ words′ O′) (events line before words O lines) (events line′ before′ words′ O′ lines′)
-      (opening-in-range line before words (opened-fresh line before words O)) (opening-in-range line′ before′ words′ (opened-fresh line′ before′ words′ O′)) objects (same to) (same′ from) 512 asked
-      ∙ sym (ap (λ (t : Table). meaning.ask t 512 asked) (H′ .table-is)) in
+      reply-agrees (header line before words O) (opening-in-range line before words (opened-fresh line before words O)) (events line before words O lines) here H
+      (header line′ before′ words′ O′) (opening-in-range line′ before′ words′ (opened-fresh line′ before′ words′ O′)) (events line′ before′ words′ O′ lines′) there H′ objects (same to) (same′ from) 512 asked in
       ap (λ (q : List ℕ × List ℕ). q .0) (question-on asking here (H .held) type)
       ∙ ap (λ (r : meaning.Reply). pick (questionRead (bytesOf asking) .ok) (replyBytes r) (refusalBytes 1)) reply
       ∙ sym (ap (λ (q : List ℕ × List ℕ). q .0) (question-on asking there (H′ .held) type))
@@ -395,12 +388,8 @@ module _ (line before words : List ℕ) (O : OpenedBy line before words) (lines 
   -- "fully settled ones hold the same bytes": in groups of one size the words of their rows are the same
   pub equal-rows : headerRead (bytesOf line) .size ≡ headerRead (bytesOf line′) .size → unsettledCount (tableOf here .rows) ≡ 0 → unsettledCount (tableOf there .rows) ≡ 0 → rowsIn here ≡ rowsIn there
   equal-rows sizes none none′ =
-      let now : here ≡ wordsAfterAll (callsOfAll lines) words = now-is line before words O lines in
-      let now′ : there ≡ wordsAfterAll (callsOfAll lines′) words′ = now-is line′ before′ words′ O′ lines′ in
-      ap rowsIn now
-      ∙ calling.equal-rows line before words (opened-fresh line before words O) (callsOfAll lines) line′ before′ words′ (opened-fresh line′ before′ words′ O′) (callsOfAll lines′) objects (same to) (same′ from) sizes
-      (subst (λ (w : List ℕ). unsettledCount (tableOf w .rows) ≡ 0) now none) (subst (λ (w : List ℕ). unsettledCount (tableOf w .rows) ≡ 0) now′ none′)
-      ∙ sym (ap rowsIn now′)
+      rows-agree (header line before words O) (opening-in-range line before words (opened-fresh line before words O)) (events line before words O lines) here H
+      (header line′ before′ words′ O′) (opening-in-range line′ before′ words′ (opened-fresh line′ before′ words′ O′)) (events line′ before′ words′ O′ lines′) there H′ objects (same to) (same′ from) sizes none none′
 
 -- an answer is none of 11's line
 answered-done : (answer : asks.Answer) → isDone (replyBytes (meaning.answered answer)) ≡ true

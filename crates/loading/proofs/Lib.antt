@@ -1,3 +1,4 @@
 pub mod Nexts
 pub mod Loads
 pub mod Outcomes
+pub mod Going

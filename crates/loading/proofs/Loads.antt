@@ -1,6 +1,6 @@
 -- A line and the end of a form, way by way.
-use mathlib.Core.Path.{_≡_, refl, sym, ap, _∙_, subst}
-use mathlib.Core.Bool.{Bool, true, false, cond}
+use mathlib.Core.Path.{_≡_, sym, ap, _∙_, subst}
+use mathlib.Core.Bool.{Bool, true, false}
 use mathlib.Core.List.{List, [], _∷_, _++_}
 use Prim.Native.Nat.{ℕ, _+_, _-_, _≤_, _<_}
 use native.Mathlib.Omega.{arith}
@@ -9,7 +9,6 @@ use lib.Dec.{eqb}
 use lib.ListN.{drop, length, set, take}
 use Rattle.meaning.specs.Tests.{between}
 use Rattle.meaning.specs.Table.{Table}
-use Rattle.meaning.specs.Refusals.{firstOf, openingRefusals}
 use Rattle.meaning.specs.Calls as meaning
 use Rattle.meaning.proofs.Tests.{between-in, between-out, fails}
 use Rattle.layout.specs.Layout.{holdsTable, spaceFor, wordsOf}

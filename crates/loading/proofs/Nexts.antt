@@ -1,11 +1,11 @@
 -- What comes next, and whether a space is under load.
 use mathlib.Core.Path.{_≡_, refl, sym, ap, _∙_, subst}
-use mathlib.Core.Bool.{Bool, true, false, not, _&&_, cond}
+use mathlib.Core.Bool.{Bool, true, false, _&&_, cond}
 use mathlib.Core.List.{List, [], _∷_}
-use Prim.Native.Nat.{ℕ, zero, suc, _+_, _-_, _*_, _≤_, _<_}
+use Prim.Native.Nat.{ℕ, zero, suc, _+_, _-_, _≤_, _<_}
 use native.Mathlib.Omega.{arith}
 use native.Mathlib.Nat.{mul-le-mul}
-use borrow.Author.Tests.{eq-eqb, ne-eqb, eqb-true, eqb-false, le-leb, lt-leb, leb-true, leb-false}
+use borrow.Author.Tests.{eq-eqb, ne-eqb, eqb-false, le-leb, lt-leb, leb-true, leb-false}
 use lib.Dec.{eqb, leb}
 use lib.ListN.{drop, getD, length, length-drop, take}
 use lib.Seq.{length-take-le}
@@ -15,14 +15,13 @@ use Rattle.meaning.proofs.Tests.{and-left, and-right, cases, clash, fails}
 use Rattle.layout.specs.Layout.{capacityIn, countIn, objectsIn, ownIn, sizeIn, spaceFor, tableMark}
 use Rattle.rules.specs.TableTests.{kindsIn, sizesKept}
 use Rattle.rules.proofs.Heading.{sizes-out}
-use Rattle.hexes.specs.Choice.{pick}
 use Rattle.tags.specs.declared.Station.{Station}
 use Rattle.forms.specs.declared.Sought.{Sought}
 use Rattle.forms.specs.declared.Sought.the-variants as sought
 use Rattle.forms.specs.Seeking.{counterAt, otherAt}
 use Rattle.forms.proofs.Places.{counter-below, other-below}
 use Rattle.taking.specs.LoadHead.{LoadHead, progressIn}
-use Rattle.taking.proofs.Words.{part-of, passed, picked, second-fails}
+use Rattle.taking.proofs.Words.{part-of, second-fails}
 use Rattle.loading.specs.declared.Next.{Next}
 use Rattle.loading.specs.declared.Next.the-variants as next
 use Rattle.loading.specs.Loading.{behindLasts, headLoads, loadWaits, nextAfter, nextIn, underLoad, waits}

@@ -3,7 +3,7 @@ use mathlib.Core.Path.{_≡_, refl}
 use mathlib.Core.List.{List, [], _∷_, map}
 use Prim.Native.Nat.{ℕ}
 use lib.IntN.{pos, negsuc}
-use lib.ListN.{length, replicate, take}
+use lib.ListN.{replicate, take}
 use Rattle.meaning.specs.Computing.{allWords}
 use Rattle.meaning.specs.Rows.{settledRow}
 use Rattle.meaning.specs.Table.{Table}

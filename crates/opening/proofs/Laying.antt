@@ -38,7 +38,7 @@ zeros-drop zero (suc k) x h = absurd (omega arith)
 zeros-drop (suc m) (suc k) x h = let e : suc m - suc k ≡ m - k = omega arith in rw e (zeros-drop m k x (omega arith))
 
 -- a fresh table in words
-fresh-words : (header : Header) (x : List ℕ) → length (header .kinds) ≤ 32 →
+pub fresh-words : (header : Header) (x : List ℕ) → length (header .kinds) ≤ 32 →
     wordsOf (opened header) ++ x ≡ tableMark ∷ header .size ∷ header .own ∷ header .capacity ∷ length (header .kinds) ∷ 0 ∷ 0 ∷ (header .kinds ++ (replicate (spaceFor (header .size) (header .capacity) - 7 - length (header .kinds)) 0 ++ x))
 unfolding wordsOf opened zeros
 fresh-words header x few =

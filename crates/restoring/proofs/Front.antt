@@ -5,7 +5,7 @@ use mathlib.Core.List.{List, [], _∷_, _++_, map}
 use Prim.Native.Nat.{ℕ, zero, suc, _+_, _-_, _*_, _≤_, _<_}
 use native.Mathlib.Omega.{arith}
 use lib.Dec.{eqb, leb, ltb}
-use lib.IntN.{ℤ, pos}
+use lib.IntN.{ℤ, pos, negsuc, natAbs}
 use lib.ListN.{getD, length, take, drop, set, replicate, length-replicate, getD-replicate, drop-of-length-le}
 use lib.Seq.{drop-cons}
 use borrow.Author.Tests.{eq-eqb, eqb-true, eqb-false, ne-eqb, le-leb, lt-leb, lt-ltb, le-ltb, leb-true, leb-false}
@@ -38,7 +38,7 @@ use Rattle.forms.proofs.Short.{clock-short, last-short, total-short}
 use Rattle.forms.proofs.ReadsBack.{clock-back, last-back, last-known, total-back}
 use Rattle.loading.specs.declared.Next.{Next}
 use Rattle.loading.specs.declared.Next.the-variants as next
-use Rattle.loading.specs.declared.Loaded.the-variants as loaded
+use Rattle.taking.specs.declared.Loaded.the-variants as loaded
 use Rattle.loading.specs.Loading.{behindLasts, loadedBy, nextAfter}
 use Rattle.restoring.specs.Restoring.{takesAll}
 use Rattle.restoring.proofs.Under.{Fresh, under}
@@ -71,7 +71,7 @@ each-replicate P zero x h = tt
 each-replicate P (suc n) x h = (h, each-replicate P n x h)
 
 -- how many other stations are before one
-abbrev others : ℕ → ℕ → ℕ
+abbrev pub others : ℕ → ℕ → ℕ
 others own k = cond (leb k own) k (k - 1)
 
 other-back : (own k : ℕ) → (k ≡ own → ⊥) → otherAt own (others own k) ≡ k
@@ -79,6 +79,42 @@ unfolding otherAt
 other-back own k n = cases (leb k own)
     (λ e. let less : k < own = omega (arith, leb-true k own e, n) in rw (e, lt-ltb k own less) refl)
     (λ e. let more : own < k = leb-false k own e in let last : suc (k - 1) ≡ k = omega arith in rw (e, le-ltb (k - 1) own (omega arith)) last)
+
+-- how many counters are among the first so many objects
+abbrev counters : List ℕ → ℕ → ℕ
+counters [] k = 0
+counters (kind ∷ kinds) zero = 0
+counters (kind ∷ kinds) (suc k) = cond (isCounter kind) (suc (counters kinds k)) (counters kinds k)
+
+no-counters : (kinds : List ℕ) → counters kinds 0 ≡ 0
+no-counters [] = refl
+no-counters (kind ∷ kinds) = refl
+
+counters-next : (kinds : List ℕ) (k : ℕ) → k < length kinds → counters kinds (suc k) ≡ cond (isCounter (getD kinds k 0)) (suc (counters kinds k)) (counters kinds k)
+counters-next [] k h = absurd (omega arith)
+counters-next (kind ∷ kinds) zero h = rw (no-counters kinds) refl
+counters-next (kind ∷ kinds) (suc k) h = rw (counters-next kinds k (omega arith)) (by (isCounter kind) (isCounter (getD kinds k 0)) (counters kinds k))
+  where
+    by : (a b : Bool) (n : ℕ) → cond a (suc (cond b (suc n) n)) (cond b (suc n) n) ≡ cond b (suc (cond a (suc n) n)) (cond a (suc n) n)
+    by true true n = refl
+    by true false n = refl
+    by false true n = refl
+    by false false n = refl
+
+counter-found : (kinds : List ℕ) (o k : ℕ) → counterAt kinds o (counters kinds k) ≡ counterAt (drop k kinds) (o + k) 0
+unfolding counterAt
+counter-found [] o zero = refl
+counter-found [] o (suc k) = refl
+counter-found (kind ∷ kinds) o zero = let e : o + 0 ≡ o = omega arith in rw e refl
+counter-found (kind ∷ kinds) o (suc k) =
+    let e : o + suc k ≡ suc o + k = omega arith in
+    rw e (cases (isCounter kind)
+    (λ q. let less : suc (counters kinds k) - 1 ≡ counters kinds k = omega arith in rw (q, ne-eqb (suc (counters kinds k)) 0 (λ z. omega (arith, z)), less) (counter-found kinds (suc o) k))
+    (λ q. rw q (counter-found kinds (suc o) k)))
+
+no-amount : (z : ℤ) → natAbs z ≡ 0 → z ≡ pos 0
+no-amount (pos n) e = ap pos e
+no-amount (negsuc n) e = absurd (omega arith)
 
 module _ (t : Table) (is : isTable t ≡ true) (rest : List ℕ) where
   F : Facts t
@@ -126,7 +162,7 @@ module _ (t : Table) (is : isTable t ≡ true) (rest : List ℕ) where
   unfolding zeros
   zeros-long = length-replicate size 0
 
-  lasts-long : Each (λ (v : Vector). length v ≡ size) (t .last)
+  pub lasts-long : Each (λ (v : Vector). length v ≡ size) (t .last)
   lasts-long = each-wide size (t .last) (W .fit .last-wide)
 
   no-last-long : Each (λ (v : Vector). length v ≡ size) no-last
@@ -142,7 +178,7 @@ module _ (t : Table) (is : isTable t ≡ true) (rest : List ℕ) where
   no-totals-range = each-replicate InRange (length kinds) (pos 0) (omega arith)
 
   -- the states of a load, by what is there
-  abbrev lasts-at : ℕ → Table
+  abbrev pub lasts-at : ℕ → Table
   lasts-at k = parts (t .clock) (mixed k (t .last) no-last) no-totals []
 
   abbrev totals-at : ℕ → Table
@@ -174,7 +210,7 @@ module _ (t : Table) (is : isTable t ≡ true) (rest : List ℕ) where
   abbrev not-own : ℕ → Bool
   not-own station = not (eqb station own)
 
-  next-last : (k : ℕ) → k < size → (k ≡ own → ⊥) → nextAfter size own kinds (suc (suc (others own k))) ≡ next.Last (record { 0 = k })
+  pub next-last : (k : ℕ) → k < size → (k ≡ own → ⊥) → nextAfter size own kinds (suc (suc (others own k))) ≡ next.Last (record { 0 = k })
   unfolding nextAfter
   next-last k b n =
       let few : suc (suc (others own k)) ≤ size = cases (leb k own) (λ e. rw e (omega (arith, H .own-in, leb-true k own e, n))) (λ e. rw e (omega (arith, leb-false k own e))) in
@@ -198,7 +234,7 @@ module _ (t : Table) (is : isTable t ≡ true) (rest : List ℕ) where
       let rule : same (getD (t .last) own []) (zeros size) ≡ true = rw (eq-eqb own own refl) at (F .last-rule own (F .own-in)) in
       same-eq (getD (t .last) own []) (zeros size) rule ∙ sym (getD-replicate size own (zeros size) [] (F .own-in))
 
-  abbrev behind-lasts : List ℕ
+  abbrev pub behind-lasts : List ℕ
   behind-lasts = under (suc size) (totals-at 0) rest
 
   lasts-done : (k : ℕ) → k ≡ size → under (suc (suc (others own k))) (lasts-at k) rest ≡ behind-lasts
@@ -234,3 +270,84 @@ module _ (t : Table) (is : isTable t ≡ true) (rest : List ℕ) where
   pub lasts-taken : takesAll (map hexLine (lastLines t)) (under 2 (lasts-at 0) rest) behind-lasts
   unfolding lastLines
   lasts-taken = let none : others own 0 ≡ 0 = rw (le-leb 0 own (omega arith)) refl in (rw none at (lasts-from size 0 (omega arith)))
+
+  -- `52`, for each counter from one on
+  abbrev pub counted : ℕ → ℕ
+  counted k = suc (size + counters kinds k)
+
+  abbrev is-counter : ℕ → Bool
+  is-counter object = isCounter (kindIn (t .header) object)
+
+  after-lasts : (k : ℕ) → nextAfter size own kinds (counted k) ≡ behindLasts (counterAt (drop k kinds) k 0)
+  unfolding nextAfter
+  after-lasts k =
+      let p = counted k in
+      let some = H .size-range .0 in
+      let left : p - suc size ≡ counters kinds k = omega arith in
+      let place : 0 + k ≡ k = omega arith in
+      rw (ne-eqb p 0 (λ z. omega (arith, z)), ne-eqb p 1 (λ z. omega (arith, z, some)), lt-leb p size (omega arith), left, counter-found kinds 0 k, place) refl
+
+  next-total : (k : ℕ) → k < length kinds → is-counter k ≡ true → nextAfter size own kinds (counted k) ≡ next.Total k
+  unfolding counterAt behindLasts kindIn
+  next-total k b q = after-lasts k ∙ rw (drop-cons kinds k 0 b, q) refl
+
+  pub next-rows : nextAfter size own kinds (counted (length kinds)) ≡ next.Rows
+  unfolding counterAt behindLasts
+  next-rows = after-lasts (length kinds) ∙ rw (drop-of-length-le kinds {i = length kinds} (omega arith)) refl
+
+  step-counted : (k : ℕ) → is-counter k ≡ true → cond (isCounter (getD kinds k 0)) (suc (counters kinds k)) (counters kinds k) ≡ suc (counters kinds k)
+  unfolding kindIn
+  step-counted k q = rw q refl
+
+  step-passed : (k : ℕ) → is-counter k ≡ false → cond (isCounter (getD kinds k 0)) (suc (counters kinds k)) (counters kinds k) ≡ counters kinds k
+  unfolding kindIn
+  step-passed k q = rw q refl
+
+  total-held : (k : ℕ) → k < length kinds → totalKept (totalBound (t .clock)) (getD kinds k 0) (getD (t .totals) k (pos 0)) ≡ true
+  unfolding totalKept totalRule kindIn
+  total-held k b = F .total-rule k b
+
+  other-none : (k : ℕ) → k < length kinds → is-counter k ≡ false → getD (t .totals) k (pos 0) ≡ getD no-totals k (pos 0)
+  unfolding totalRule
+  other-none k b q =
+      let z = getD (t .totals) k (pos 0) in
+      let rule : eqb (natAbs z) 0 ≡ true = rw q at (F .total-rule k b) in
+      no-amount z (eqb-true (natAbs z) 0 rule) ∙ sym (getD-replicate (length kinds) k (pos 0) (pos 0) b)
+
+  each-range : (l : List ℤ) → Each InRange l → (k : ℕ) → k < length l → InRange (getD l k (pos 0))
+  each-range [] e k b = absurd (omega arith)
+  each-range (z ∷ l) e zero b = e .0
+  each-range (z ∷ l) e (suc k) b = each-range l (e .1) k (omega arith)
+
+  abbrev pub behind-totals : List ℕ
+  behind-totals = under (counted (length kinds)) (parts (t .clock) (t .last) (t .totals) []) rest
+
+  totals-from : (n k : ℕ) → k + n ≡ length kinds → takesAll (map hexLine (linesOf is-counter totalLine k (drop k (t .totals)))) (under (counted k) (totals-at k) rest) behind-totals
+  totals-from zero k e =
+      let done : k ≡ length kinds = omega arith in
+      rw (drop-of-length-le (t .totals) {i = k} (omega (arith, F .totals-length)), done, mixed-whole (t .totals) no-totals (length kinds) (F .totals-length) no-totals-many) refl
+  totals-from (suc n) k e =
+      let b : k < length kinds = omega arith in
+      let here : k < length (t .totals) = omega (arith, F .totals-length) in
+      let there : k < length no-totals = omega (arith, no-totals-many) in
+      let rest-lines = map hexLine (linesOf is-counter totalLine (suc k) (drop (suc k) (t .totals))) in
+      rw (drop-cons (t .totals) k (pos 0) here) (cases (is-counter k)
+      (λ q. let number : counters kinds (suc k) ≡ suc (counters kinds k) = counters-next kinds k b ∙ step-counted k q in
+      let progress : counted (suc k) ≡ suc (counted k) = omega (arith, number) in
+      let z = getD (t .totals) k (pos 0) in
+      let line = hexLine (totalLine k z) in
+      let heard : bytesOf line ≡ totalLine k z = bytes-back (totalLine k z) (replicate 261 0) (total-bytes k z) (length-replicate {A = ℕ} 261 0) (omega (arith, total-short t is k z)) in
+      let step = total-step (totals-at k) (fresh-totals k) rest (counted k) line refl k b (next-total k b q) z (each-range (t .totals) (W .range) k here) (total-held k b) (ap totalRead heard ∙ total-back t is k z b) in
+      rw q (first-taken line rest-lines (under (counted k) (totals-at k) rest) (under (counted (suc k)) (totals-at (suc k)) rest) behind-totals
+      (step ∙ ap₂ (λ (i : ℕ) (l : List ℤ). (loaded.Taken, under i (parts (t .clock) (t .last) l []) rest)) (sym progress) (mixed-set (t .totals) no-totals (pos 0) k here there))
+      (totals-from n (suc k) (omega arith))))
+      (λ q. let number : counters kinds (suc k) ≡ counters kinds k = counters-next kinds k b ∙ step-passed k q in
+      rw q (subst (λ (w : List ℕ). takesAll rest-lines w behind-totals)
+      (ap₂ (λ (i : ℕ) (l : List ℤ). under (suc (size + i)) (parts (t .clock) (t .last) l []) rest) number (sym (mixed-same (t .totals) no-totals (pos 0) k here there (other-none k b q))))
+      (totals-from n (suc k) (omega arith)))))
+
+  pub totals-taken : takesAll (map hexLine (totalLines t)) behind-lasts behind-totals
+  unfolding totalLines
+  totals-taken =
+      let start : size + counters kinds 0 ≡ size = rw (no-counters kinds) (omega arith) in
+      (rw start at (totals-from (length kinds) 0 (omega arith)))

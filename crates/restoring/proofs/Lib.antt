@@ -5,3 +5,12 @@ pub mod Appending
 pub mod RowLines
 pub mod Mixed
 pub mod Front
+pub mod RoundTrip
+pub mod Heard
+pub mod StepsBack
+pub mod RowBack
+pub mod OpeningBack
+pub mod RowsBack
+pub mod TotalsBack
+pub mod LastsBack
+pub mod OneForm

@@ -6,8 +6,8 @@ use native.Mathlib.Omega.{arith}
 use lib.ListN.{getD, length, take, drop, set, drop-of-length-le}
 use lib.Seq.{take-all}
 use Rattle.layout.proofs.Pieces.{Each}
-use Rattle.loading.specs.declared.Loaded.{Loaded}
-use Rattle.loading.specs.declared.Loaded.the-variants as loaded
+use Rattle.taking.specs.declared.Loaded.{Loaded}
+use Rattle.taking.specs.declared.Loaded.the-variants as loaded
 use Rattle.loading.specs.Loading.{loadedBy}
 use Rattle.restoring.specs.Restoring.{loads, takesAll}
 

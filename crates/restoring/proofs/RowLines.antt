@@ -31,10 +31,11 @@ use Rattle.saved.specs.declared.Closing.{Closing}
 use Rattle.saved.specs.Named.{closingRead, rowRead}
 use Rattle.heard.specs.Hearing.{bytesOf}
 use Rattle.formlines.proofs.Parts.{piece-at}
-use Rattle.loading.specs.declared.Loaded.{Loaded}
-use Rattle.loading.specs.declared.Loaded.the-variants as loaded
+use Rattle.taking.specs.declared.Loaded.{Loaded}
+use Rattle.taking.specs.declared.Loaded.the-variants as loaded
 use Rattle.loading.specs.declared.Next.the-variants as next
-use Rattle.loading.specs.Loading.{closed, joins, lastRow, loadedBy, nextAfter, rowPlace, rowSaid, rowTaken, spoilt, takenAs, waits}
+use Rattle.taking.specs.Taking.{closed, finished, joined, joins, lastRow, rowOrClosing, rowPlace, rowSaid, rowTaken, spoilt}
+use Rattle.loading.specs.Loading.{loadedBy, nextAfter, takenAs, waits}
 use Rattle.restoring.proofs.Setting.{paste-set, set-set, set-swap}
 use Rattle.restoring.proofs.Under.{Fresh, under, size-is, capacity-is, count-is, kinds-are, clock-is, room, taken-by}
 use Rattle.restoring.proofs.Steps.{front-of}
@@ -81,17 +82,17 @@ module _ (t : Table) (F : Fresh t) (rest : List ℕ) (p : ℕ) (line : List ℕ)
   abbrev w : ℕ
   w = rowWidth size
 
-  by-rows : loadedBy line space ≡ takenAs next.Rows (bytesOf line) space
+  pub by-rows : loadedBy line space ≡ takenAs next.Rows (bytesOf line) space
   unfolding waits
   by-rows = taken-by t F rest p line next.Rows c refl
 
   -- the closing line
   pub close-step : rowRead size (bytesOf line) .ok ≡ false → closingRead (bytesOf line) ≡ record { ok = true; rows = length (t .rows) } → isTable t ≡ true → loadedBy line space ≡ (loaded.Table, plain)
-  unfolding takenAs closed wordsOf
+  unfolding takenAs rowOrClosing closed finished wordsOf
   close-step n e is =
       let whole : set space 6 0 ≡ plain = set-set plain 6 p 0 in
       by-rows ∙ rw (n, whole, count-is t F rest p)
-      (ap (λ (f : Closing). pick (f .ok && (eqb (f .rows) (length (t .rows)) && holdsTable plain)) (loaded.Table, plain) (spoilt space)) e
+      (ap (λ (f : Closing). pick (f .ok && eqb (f .rows) (length (t .rows))) (pick (holdsTable plain) (loaded.Table, plain) (spoilt space)) (spoilt space)) e
       ∙ rw (eq-eqb (length (t .rows)) (length (t .rows)) refl, laid-held t is rest) refl)
 
   -- the rows that stand there
@@ -108,8 +109,8 @@ module _ (t : Table) (F : Fresh t) (rest : List ℕ) (p : ℕ) (line : List ℕ)
   stand : pieces w (length (t .rows)) (drop (rowsAt size) plain) ≡ written
   stand = ap (pieces w (length (t .rows))) rows-at ∙ pieces-at w (length (t .rows)) written (replicate (t .header .capacity * w - length (flat written)) 0 ++ rest) (wide-rows size (t .rows) (short size (t .rows) (F .well .shape))) (length-map (t .rows) (rowWords size))
 
-  last-is : 0 < length (t .rows) → lastRow space ≡ getD written (length (t .rows) - 1) []
-  unfolding lastRow rowPlace wordsOf
+  pub last-is : 0 < length (t .rows) → lastRow space ≡ getD written (length (t .rows) - 1) []
+  unfolding lastRow wordsOf
   last-is h =
       let k = length (t .rows) - 1 in
       ap (take w) (drop-set-lt (rowsAt size + k * w) plain 6 p (omega arith) ∙ sym (drop-drop (k * w) (rowsAt size) plain))
@@ -133,7 +134,7 @@ module _ (t : Table) (F : Fresh t) (rest : List ℕ) (p : ℕ) (line : List ℕ)
     may-join = rw (kinds-are t F rest p, clock-is t F rest p, lt-ltb (length (t .rows)) (t .header .capacity) more, kept) in-order
 
     after : set (paste space (rowPlace space (countIn space)) (rowWords size r) (length (rowWords size r))) 5 (suc (countIn space)) ≡ under p (withRows t (t .rows ++ (r ∷ []))) rest
-    unfolding rowPlace wordsOf
+    unfolding wordsOf
     after =
         let place = rowsAt size + length (t .rows) * w in
         let within : place ≤ length plain = omega (arith, room t F rest p, mul-le-mul-right w (F .sized .within)) in
@@ -142,7 +143,7 @@ module _ (t : Table) (F : Fresh t) (rest : List ℕ) (p : ℕ) (line : List ℕ)
         ∙ ap (λ (l : List ℕ). set l 6 p) (row-behind t F rest r wide more)
 
     pub row-step : rowRead size (bytesOf line) ≡ lineOfRow size r → loadedBy line space ≡ (loaded.Taken, under p (withRows t (t .rows ++ (r ∷ []))) rest)
-    unfolding takenAs rowTaken
+    unfolding takenAs rowOrClosing rowTaken joined wordsOf
     row-step e =
         by-rows
         ∙ rw (size-is t F rest p, e, said-words size r few low, byte-low (r .settled), may-join) (ap (λ (l : List ℕ). (loaded.Taken, l)) after)

@@ -26,11 +26,12 @@ use Rattle.saved.specs.declared.LastVector.{LastVector}
 use Rattle.saved.specs.declared.Total.{Total}
 use Rattle.saved.specs.Named.{clockRead, lastRead, totalRead}
 use Rattle.heard.specs.Hearing.{bytesOf}
-use Rattle.loading.specs.declared.Loaded.{Loaded}
-use Rattle.loading.specs.declared.Loaded.the-variants as loaded
+use Rattle.taking.specs.declared.Loaded.{Loaded}
+use Rattle.taking.specs.declared.Loaded.the-variants as loaded
 use Rattle.loading.specs.declared.Next.{Next}
 use Rattle.loading.specs.declared.Next.the-variants as next
-use Rattle.loading.specs.Loading.{clockTaken, lastTaken, loadedBy, nextAfter, spoilt, takenAs, took, totalTaken, waits}
+use Rattle.taking.specs.Taking.{clockTaken, lastTaken, spoilt, took, totalTaken}
+use Rattle.loading.specs.Loading.{loadedBy, nextAfter, takenAs, waits}
 use Rattle.restoring.proofs.Setting.{pasted}
 use Rattle.restoring.proofs.Under.{Fresh, under, size-is, own-is, kinds-are, clock-is, room, taken-by, took-as}
 

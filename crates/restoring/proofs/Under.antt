@@ -19,11 +19,13 @@ use Rattle.layout.proofs.Changing.{Sized, laid-again, words-long}
 use Rattle.rules.specs.TableTests.{clockIn, kindsIn, sizesKept}
 use Rattle.hexes.specs.Choice.{pick}
 use Rattle.heard.specs.Hearing.{bytesOf}
-use Rattle.loading.specs.declared.Loaded.{Loaded}
-use Rattle.loading.specs.declared.Loaded.the-variants as loaded
+use Rattle.taking.specs.declared.Loaded.{Loaded}
+use Rattle.taking.specs.declared.Loaded.the-variants as loaded
 use Rattle.loading.specs.declared.Next.{Next}
 use Rattle.loading.specs.declared.Next.the-variants as next
-use Rattle.loading.specs.Loading.{loadedBy, nextAfter, nextIn, progressIn, takenAs, took, underLoad, waits}
+use Rattle.taking.specs.LoadHead.{progressIn}
+use Rattle.taking.specs.Taking.{took}
+use Rattle.loading.specs.Loading.{headLoads, loadWaits, loadedBy, nextAfter, nextIn, takenAs, underLoad, waits}
 use Rattle.restoring.proofs.Setting.{paste-set, set-set}
 
 -- what is written of a table with sizes in range
@@ -118,7 +120,7 @@ module _ (t : Table) (F : Fresh t) (rest : List ℕ) (p : ℕ) where
   mark-is = refl
 
   is-under : waits coming (length (t .rows)) ≡ true → underLoad words ≡ true
-  unfolding underLoad wordsOf
+  unfolding underLoad headLoads loadWaits wordsOf
   is-under h = rw (size-is, own-is, capacity-is, objects-are, count-is, kinds-are, next-is, length-is, sizes, le-leb (spaceFor (t .header .size) (t .header .capacity)) (length plain) room, known-kinds, h, mark-is) refl
 
   -- a line to it

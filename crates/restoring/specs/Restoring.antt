@@ -2,7 +2,7 @@
 use mathlib.Core.Path.{_≡_}
 use mathlib.Core.List.{List, [], _∷_}
 use Prim.Native.Nat.{ℕ}
-use Rattle.loading.specs.declared.Loaded.the-variants as loaded
+use Rattle.taking.specs.declared.Loaded.the-variants as loaded
 use Rattle.loading.specs.Loading.{loadedBy}
 
 -- Every line is taken, and the space is this afterwards.

@@ -10,7 +10,7 @@ use lib.Dec.{eqb, leb, ltb}
 use lib.ListN.{drop, getD, length, length-replicate, length-set, replicate, set, take, take-append-drop}
 use lib.Seq.{length-take-le, paste, take-all, take-at}
 use Rattle.meaning.proofs.Tests.{and-both, and-left}
-use Rattle.layout.specs.Layout.{capacityIn, countIn, holdsTable, rowWidth, sizeIn, spaceFor}
+use Rattle.layout.specs.Layout.{capacityIn, countIn, holdsTable, sizeIn, spaceFor}
 use Rattle.rules.specs.TableTests.{clockIn, kindsIn}
 use Rattle.rowrules.specs.RowTests.{follows, rowKept}
 use Rattle.rowrules.proofs.Chaining.{by-keys}
@@ -18,7 +18,6 @@ use Rattle.hexes.specs.Choice.{pick}
 use Rattle.saved.specs.declared.Row.{Row}
 use Rattle.saved.specs.declared.Closing.{Closing}
 use Rattle.saved.specs.Named.{closingRead, rowRead}
-use Rattle.saved.proofs.Vectors.{row-vector}
 use Rattle.taking.specs.declared.Loaded.{Loaded}
 use Rattle.taking.specs.declared.Loaded.the-variants as loaded
 use Rattle.taking.specs.LoadHead.{LoadHead}

@@ -1,6 +1,6 @@
 -- What is known of the head of a space that a form is loaded into: with it, the places of a table's parts close by themselves.
 use mathlib.Core.List.{List}
-use Prim.Native.Nat.{ℕ, _+_, _*_, _≤_, _<_}
+use Prim.Native.Nat.{ℕ, _*_, _≤_, _<_}
 use lib.ListN.{getD, length}
 use Rattle.layout.specs.Layout.{capacityIn, clockAt, countIn, objectsIn, ownIn, sizeIn, spaceFor}
 

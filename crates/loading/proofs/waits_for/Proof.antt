@@ -1,25 +1,7 @@
 use Rattle.loading.proofs.Nexts.{waits-clock, waits-last, waits-nothing, waits-rows, waits-total}
-use native.Mathlib.Omega.{arith}
 use borrow.Author.Needs.{needs}
 use Rattle.loading.proofs.waits_for.Statement.{statement}
 use Rattle.loading.proofs.waits_for.Tie as tie
-use Rattle.loading.proofs.waits_for.Reads as reads
-use Rattle.loading.proofs.waits_for.Lts as lts
-
-enum-told : tie.Need-enum-told
-enum-told c = search needs
-
-enum-known-next : tie.Need-enum-known-next
-enum-known-next c = search needs
-
-enum-known-next-2 : tie.Need-enum-known-next-2
-enum-known-next-2 c = search needs
-
-enum-told-2 : tie.Need-enum-told-2
-enum-told-2 c = search needs
-
-enum-told-3 : tie.Need-enum-told-3
-enum-told-3 c = search needs
 
 returns : tie.Need-returns
 returns c = search waits-clock
@@ -40,11 +22,11 @@ pub waits-for-spec : {M : Type 1} → statement M
 waits-for-spec =
     tie.close
     (tie.spec
-    enum-told
-    enum-known-next
-    enum-known-next-2
-    enum-told-2
-    enum-told-3
+    (λ c. search needs)
+    (λ c. search needs)
+    (λ c. search needs)
+    (λ c. search needs)
+    (λ c. search needs)
     returns
     returns-2
     returns-3

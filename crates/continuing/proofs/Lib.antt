@@ -1,0 +1,2 @@
+pub mod LoadsExactly
+pub mod Saved

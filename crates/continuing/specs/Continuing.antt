@@ -1,0 +1,45 @@
+-- What befalls a table: lines that are answered, and its latest form loaded into a space.
+use mathlib.Core.Path.{_≡_}
+use mathlib.Core.Bool.{false}
+use mathlib.Core.List.{List, [], _∷_, _++_, map}
+use Prim.Native.Nat.{ℕ, _≤_}
+use lib.ListN.{length}
+use Rattle.meaning.specs.Operations as meant
+use Rattle.layout.specs.Layout.{capacityIn, sizeIn, spaceFor, tableOf}
+use Rattle.hexes.specs.Hex.{hexLine}
+use Rattle.forms.specs.Forms.{savedForm}
+use Rattle.loading.specs.Loading.{loadedBy, underLoad}
+use Rattle.calls.specs.Answers.{answerOf}
+use Rattle.calls.specs.Lines.{acceptedBy}
+
+-- A line that is answered, or the form that the table saves now, loaded into another space, which is the table's from then on.
+pub data Act : Type 0 where
+  said : List ℕ → Act
+  restored : List ℕ → Act
+
+-- A space after these lines were loaded into it, the first first.
+unfoldable pub loadedAll : List (List ℕ) → List ℕ → List ℕ
+loadedAll [] words = words
+loadedAll (line ∷ rest) words = loadedAll rest (loadedBy line words .1)
+
+-- The space of the table afterwards.
+unfoldable pub actAfter : Act → List ℕ → List ℕ
+actAfter (said line) words = answerOf line words .1
+actAfter (restored space) words = loadedAll (map hexLine (savedForm (tableOf words))) space
+
+unfoldable pub actsAfter : List Act → List ℕ → List ℕ
+actsAfter [] words = words
+actsAfter (act ∷ rest) words = actsAfter rest (actAfter act words)
+
+-- A form is loaded "into any space large enough" in which no load is under way; a line may be any.
+unfoldable pub Fitting : List Act → List ℕ → Type 0
+Fitting [] words = Unit {0}
+Fitting (said line ∷ rest) words = Fitting rest (actAfter (said line) words)
+Fitting (restored space ∷ rest) words =
+    (underLoad space ≡ false) × ((spaceFor (sizeIn words) (capacityIn words) ≤ length space) × Fitting rest (actAfter (restored space) words))
+
+-- All operations that were accepted, the latest first: loading brings none.
+unfoldable pub acceptedByActs : List Act → List ℕ → List meant.Operation → List meant.Operation
+acceptedByActs [] words earlier = earlier
+acceptedByActs (said line ∷ rest) words earlier = acceptedByActs rest (actAfter (said line) words) (acceptedBy line words ++ earlier)
+acceptedByActs (restored space ∷ rest) words earlier = acceptedByActs rest (actAfter (restored space) words) earlier
