@@ -3,9 +3,7 @@ use mathlib.Core.Path.{_≡_, refl, sym, ap, subst, _∙_}
 use mathlib.Core.Bool.{Bool, true, false}
 use mathlib.Core.List.{List, [], _∷_}
 use Prim.Native.Nat.{ℕ}
-use lib.ListN.{length}
 use Rattle.layout.specs.Layout.{holdsTable}
-use Rattle.meaning.proofs.Tests.{cases}
 use Rattle.hexes.specs.Choice.{pick}
 use Rattle.heard.specs.Hearing.{bytesOf, typeOf}
 use Rattle.spoken.specs.Spoken.{openedBy}

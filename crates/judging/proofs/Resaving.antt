@@ -1,12 +1,11 @@
 -- What the second program prints, way by way; and that it is the form of a table.
-use mathlib.Core.Path.{_≡_, refl, sym, ap, ap₂, subst, _∙_}
-use mathlib.Core.Bool.{Bool, true, false}
+use mathlib.Core.Path.{_≡_, refl, sym, ap, _∙_}
+use mathlib.Core.Bool.{true}
 use mathlib.Core.List.{List, [], _∷_}
 use Prim.Native.Nat.{ℕ, zero, suc, _≤_, _<_}
 use native.Mathlib.Omega.{arith}
 use lib.ListN.{length, replicate, length-replicate}
 use Rattle.layout.specs.Layout.{holdsTable, tableOf}
-use Rattle.hexes.specs.Choice.{pick}
 use Rattle.hexes.specs.Hex.{isDigit, valueOf}
 use Rattle.hexes.specs.Decoding.{isLine, justLf, pairOf, pairs}
 use Rattle.shapes.specs.Reading.{hasShape, startsWith}
@@ -16,13 +15,12 @@ use Rattle.writing.specs.declared.Written.the-variants as written
 use Rattle.lines.specs.Types.{isOf, refused}
 use Rattle.lines.specs.Named.{printingRead}
 use Rattle.printed.specs.Printed.{printed}
-use Rattle.heard.specs.Hearing.{bytesOf, byteOfType, typeOf}
+use Rattle.heard.specs.Hearing.{bytesOf, typeOf}
 use Rattle.forms.specs.Forms.{savedForm}
 use Rattle.telling.specs.Telling.{refusalBytes}
 use Rattle.calls.specs.declared.Answered.{Answered}
 use Rattle.calls.specs.declared.Answered.the-variants as answered
-use Rattle.calls.specs.Answers.{answeredBy, linesFor, printedAt, spaceAfter}
-use Rattle.calls.specs.Told.{lineOrEnd}
+use Rattle.calls.specs.Answers.{answeredBy, linesFor, printedAt}
 use Rattle.calls.proofs.Counting.{behind-last, line-at-front, lines-count}
 use Rattle.calls.proofs.Answering.{printing-stays, refused-first, told-end, told-line}
 use Rattle.judging.specs.declared.Judged.{Judged}

@@ -1,7 +1,7 @@
 -- A form that comes in pieces: its lines judged as they end, and what main keeps.
-use Prim.Native.Nat.{ℕ, zero, suc, _+_, _-_, _≤_, _<_}
-use mathlib.Core.Path.{_≡_, refl, sym, ap, subst, _∙_}
-use mathlib.Core.List.{List, [], _∷_}
+use Prim.Native.Nat.{ℕ, _+_, _-_, _≤_, _<_}
+use mathlib.Core.Path.{_≡_, refl, subst, _∙_}
+use mathlib.Core.List.{List, []}
 use native.Mathlib.Omega.{arith}
 use lib.ListN.{getD, length, take}
 use Rattle.hexes.specs.Hex.{lf}
@@ -10,7 +10,7 @@ use Rattle.ranges.specs.Spaces.{mostWords}
 use Rattle.keeping.specs.Feeding.{fed, Going, heldFed, heldTaken, LastPiece, taken, WholeLines}
 use Rattle.keeping.proofs.Feeding as keeping
 use Rattle.judging.specs.declared.Judged.{Judged}
-use Rattle.judging.specs.Judging.{judgedBy, Judging}
+use Rattle.judging.specs.Judging.{judgedBy}
 use Rattle.judging.proofs.Judging.{judged-alike}
 use Rattle.resave.specs.declared.Kept.{Kept}
 use Rattle.resave.specs.declared.More.{More}

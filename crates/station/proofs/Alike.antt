@@ -15,13 +15,13 @@ use Rattle.lines.specs.Named.{printingRead}
 use Rattle.heard.specs.Hearing.{bytesOf, typeOf}
 use Rattle.forms.specs.Forms.{savedForm}
 use Rattle.forms.proofs.Short.{Short, form-short}
-use Rattle.forms.proofs.Count.{form-count}
 use Rattle.spoken.specs.Spoken.{openedBy, receivedOn, settledOn}
 use Rattle.answering.specs.Answering.{answerOn, issueAnswer, questionAnswer, secondOpening}
 use Rattle.calls.specs.declared.Answered.{Answered}
 use Rattle.calls.specs.declared.Answered.the-variants.{Line, End}
 use Rattle.calls.specs.Answers.{answeredBy, answerOf, linesFor, longestAnswer, printedAt, spaceAfter}
 use Rattle.calls.proofs.Answering.{answer-fits}
+use Rattle.calls.proofs.Counting.{behind-last, lines-count}
 use Rattle.station.specs.Replying.{mostLines}
 
 module _ (a b : List ℕ) (same : bytesOf a ≡ bytesOf b) where
@@ -88,15 +88,6 @@ module _ (line words : List ℕ) where
       by true false f = (answer-fits line words, tt)
       by false read f = (answer-fits line words, tt)
 
-  lines-count : length (linesFor line words) ≤ mostLines
-  unfolding linesFor
-  lines-count = by (holdsTable words) (printingRead (bytesOf line)) (λ h. form-count (tableOf words) (checked words h .by-rules))
-    where
-      by : (held read : Bool) → (held ≡ true → length (savedForm (tableOf words)) ≤ mostLines) → length (pick (held && read) (savedForm (tableOf words)) (answerOf line words .0 ∷ [])) ≤ mostLines
-      by true true f = f refl
-      by true false f = let r : 1 ≤ mostLines = omega arith in r
-      by false read f = let r : 1 ≤ mostLines = omega arith in r
-
 -- an output line stands at the front of its space, and is none too long
 abbrev Within : Answered → List ℕ → Type 0
 Within (Line n) out = (n ≤ length out) × (n ≤ longestAnswer)
@@ -122,14 +113,7 @@ module _ (line : List ℕ) (k : ℕ) (words out : List ℕ) (r : Answered) (n : 
   pub line-short : length (take (n - 0) y) ≤ longestAnswer
   line-short = let z : n - 0 ≡ n = omega arith in omega (arith, both .1, ap (λ (m : ℕ). length (take m y)) z ∙ length-take-le n y (both .0))
 
--- behind the last output line there is none
-behind : (lines : List (List ℕ)) (k : ℕ) (out : List ℕ) → length lines ≤ k → printedAt lines k out ≡ (End, out)
-unfolding printedAt
-behind [] k out h = refl
-behind (bytes ∷ rest) zero out h = absurd (omega arith)
-behind (bytes ∷ rest) (suc k) out h = behind rest k out (omega arith)
-
 -- no line has more output lines than are asked for
 pub ends : (line words out : List ℕ) → answeredBy line mostLines words out ≡ (End, (words, out))
 unfolding answeredBy spaceAfter
-ends line words out = ap (λ (p : Answered × List ℕ). (p .0, (words, p .1))) (behind (linesFor line words) mostLines out (lines-count line words))
+ends line words out = ap (λ (p : Answered × List ℕ). (p .0, (words, p .1))) (behind-last (linesFor line words) mostLines out (lines-count line words))

@@ -1,35 +1,18 @@
 -- The output lines for a line join those that wait, one after the other.
 use Prim.Native.Nat.{ℕ, suc, _+_, _-_, _≤_, _<_}
 use mathlib.Core.Path.{_≡_, refl, sym, ap, _∙_}
-use mathlib.Core.Bool.{Bool, true, false}
 use mathlib.Core.List.{List, [], _∷_, _++_}
 use native.Mathlib.Numerals.{add-one}
 use native.Mathlib.Omega.{arith}
-use borrow.Author.Tests.{le-leb, lt-leb, ltb-true}
-use lib.Dec.{ltb}
+use borrow.Author.Tests.{le-leb, lt-leb}
 use lib.ListN.{length, getD, take, drop, set, replicate, drop-of-length-le, length-set, take-append-drop}
 use lib.Seq.{append-snoc, drop-cons, drop-set-lt, take-suc-set}
-use Rattle.hexes.specs.Choice.{pick}
 use Rattle.hexes.specs.Keeping.{kept, keptAll}
 use Rattle.hexes.proofs.Keeping.{kept-room}
 use Rattle.calls.specs.declared.Answered.{Answered}
 use Rattle.calls.specs.declared.Answered.the-variants.{Line, End}
 use Rattle.calls.specs.Answers.{answeredBy, longestAnswer}
 use Rattle.station.specs.Replying.{HasRoom, Held, joined, mostLines, orEnd, pushed, replied, repliedFrom}
-
--- no more characters are kept than the space holds
-pub kept-within : (space : List ℕ) (have b : ℕ) → have ≤ length space → kept space have b .0 ≤ length (kept space have b .1)
-unfolding kept
-kept-within space have b h = go (ltb have (length space)) refl
-  where
-    go : (t : Bool) → ltb have (length space) ≡ t → pick {A = ℕ × List ℕ} t (have + 1, set space have b) (have, space) .0 ≤ length (pick {A = ℕ × List ℕ} t (have + 1, set space have b) (have, space) .1)
-    go true e = omega (arith, ltb-true have (length space) e, length-set space have b)
-    go false e = h
-
-pub kept-all-within : (space : List ℕ) (have : ℕ) (text : List ℕ) → have ≤ length space → keptAll space have text .0 ≤ length (keptAll space have text .1)
-unfolding keptAll
-kept-all-within space have [] h = h
-kept-all-within space have (b ∷ text) h = kept-all-within (kept space have b .1) (kept space have b .0) text (kept-within space have b h)
 
 -- where there is room every character is kept
 kept-joined : (text space : List ℕ) (have : ℕ) → have + length text ≤ length space → keptAll space have text ≡ joined space have text

@@ -5,7 +5,8 @@ ghost use lib.ListN.{length};
 ghost use Rattle.calls.specs.Answers.{longestAnswer};
 ghost use Rattle.ranges.specs.Spaces.{mostWords};
 ghost use Rattle.station.specs.Replying.{HasRoom, joined, pushed, replied};
-ghost use Rattle.station.specs.Feeding.{fed, Going, heldFed, heldTaken, LastPiece, StillGoing, taken, WholeLines};
+ghost use Rattle.keeping.specs.Feeding.{fed, Going, heldFed, heldTaken, LastPiece, taken, WholeLines};
+ghost use Rattle.station.specs.Ending.{StillGoing};
 use calls::Answered;
 use libc::STDIN_FILENO;
 use libc::STDOUT_FILENO;
@@ -13,8 +14,8 @@ use libc::STDOUT_FILENO;
 // The words of the greatest table: 16 stations, 512 rows.
 const MOST_WORDS: usize = 12151;
 
-// The characters of the longest line. Of a longer one so many are kept, which get what the whole line gets (law `line-answered`, by which `feed` keeps its
-// promise).
+// The characters of the longest line. Of a longer one so many are kept, which get what the whole line gets (law `line-answered` of
+// `keeping`, by which `feed` keeps its promise).
 const LINE: usize = 2 * lines::LONGEST + 1;
 
 // The characters of the answers that wait to be written at once.
@@ -122,7 +123,7 @@ fn take(space: &mut [u32], line: &mut [u8], pending: &mut [u8], kept: Kept, b: u
     requires { ⌜ (kept .have ≤ length (now line)) × HasRoom (kept .waiting .count) (now pending) ⌝ }
     ensures { λ r. ⌜ ((r .have, now (line .exit)) ≡ taken (now (line .entry)) (kept .have) b)
         × (((now (space .exit), (r .waiting .count, now (pending .exit)))
-        ≡ heldTaken (now (line .entry)) (kept .have) (now (space .entry), (kept .waiting .count, now (pending .entry))) b)
+        ≡ heldTaken replied (now (line .entry)) (kept .have) (now (space .entry), (kept .waiting .count, now (pending .entry))) b)
         × ((r .have ≤ length (now (line .exit))) × HasRoom (r .waiting .count) (now (pending .exit)))) ⌝ }
 {
     let have = hexes::keep(line, kept.have, b);
@@ -142,8 +143,8 @@ fn feed(space: &mut [u32], line: &mut [u8], pending: &mut [u8], from: usize, chu
     requires { ⌜ Going (now line) from × HasRoom 0 (now pending) ⌝ }
     ensures { λ r. ⌜ ((r .have, now (line .exit)) ≡ fed (now (line .entry)) from (now (chunk .entry)))
         × (((now (space .exit), (r .waiting .count, now (pending .exit)))
-        ≡ heldFed (now (line .entry)) from (now (space .entry), (0, now (pending .entry))) (now (chunk .entry)))
-        × (WholeLines (now (line .entry)) from (now (space .entry), (0, now (pending .entry))) (now (chunk .entry))
+        ≡ heldFed replied (now (line .entry)) from (now (space .entry), (0, now (pending .entry))) (now (chunk .entry)))
+        × (WholeLines replied (now (line .entry)) from (now (space .entry), (0, now (pending .entry))) (now (chunk .entry))
         (now (space .exit), (r .waiting .count, now (pending .exit)))
         × (Going (now (line .exit)) (r .have) × HasRoom (r .waiting .count) (now (pending .exit))))) ⌝ }
 {
@@ -192,7 +193,7 @@ fn some(space: &mut [u32], line: &mut [u8], pending: &mut [u8], have: usize) -> 
 // The input is at its end: a last piece without LF is a line too.
 fn end(space: &mut [u32], line: &[u8], pending: &mut [u8], have: usize) -> Waiting
     requires { ⌜ Going (now line) have × HasRoom 0 (now pending) ⌝ }
-    ensures { λ r. ⌜ LastPiece (now (line .entry)) have (now (space .entry), (0, now (pending .entry)))
+    ensures { λ r. ⌜ LastPiece replied (now (line .entry)) have (now (space .entry), (0, now (pending .entry)))
         (now (space .exit), (r .count, now (pending .exit)))
         × HasRoom (r .count) (now (pending .exit)) ⌝ }
 {

@@ -1,5 +1,6 @@
 -- `station::end` meets its contract.
-use Rattle.station.proofs.Feeding.{going-within, nothing-left, piece-left}
+use Rattle.keeping.proofs.Feeding.{going-within}
+use Rattle.station.proofs.Feeding.{nothing-left, piece-left}
 use borrow.Author.Needs.{needs}
 use Rattle.station.proofs.end.Statement.{statement}
 use Rattle.station.proofs.end.Tie as tie

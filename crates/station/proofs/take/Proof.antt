@@ -1,5 +1,6 @@
 -- `station::take` meets its contract.
-use Rattle.station.proofs.Feeding.{have-within, held-ended, held-joined, taken-ended, taken-joined}
+use Rattle.keeping.proofs.Feeding.{have-within, taken-ended, taken-joined}
+use Rattle.station.proofs.Feeding.{held-ended, held-joined}
 use borrow.Author.Needs.{needs}
 use Rattle.station.proofs.take.Statement.{statement}
 use Rattle.station.proofs.take.Tie as tie
