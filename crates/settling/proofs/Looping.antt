@@ -51,6 +51,12 @@ module _ (kinds low : List ℕ) (limit : ℕ) (s₀ : List ℕ) (n w count : ℕ
   pub copy-within : from + w ≤ length s
   copy-within = rw (L .wide) row-within
 
+  pub resume-fits : length s₀ * 4 < 9223372036854775808 → from + w < 9223372036854775808
+  resume-fits h = omega (arith, copy-within, L .pass .long)
+
+  pub resume-fits-again : length s₀ * 4 < 9223372036854775808 → (g : ℕ) → g ≡ from + w → g + w < 9223372036854775808
+  resume-fits-again h g e = omega (arith, copy-within, L .pass .long, L .wide, L .few, e)
+
   pub copy-again : (s₁ : List ℕ) → length s₁ ≡ length s → from + w ≤ length s₁
   copy-again s₁ e = rw e copy-within
 
@@ -68,22 +74,22 @@ module _ (kinds low : List ℕ) (limit : ℕ) (s₀ : List ℕ) (n w count : ℕ
   here-spelt = row-spelt kinds low n (pieces (7 + n) left s) (pieces (7 + n) (more - 1) (drop (from + (7 + n)) s)) (take (7 + n) (drop from s)) rows-held
 
   module _ (r : Step) (e : r ≡ stepFor (kindAt kinds) low (map rowOf (pieces (7 + n) left s)) (rowOf (take (7 + n) (drop from s))) (map rowOf (pieces (7 + n) (more - 1) (drop (from + (7 + n)) s)))) where
-    pub loop-keep : (s′ : List ℕ) → s′ ≡ paste s to (drop from s) w → r ≡ Keeps → Loop kinds low limit s₀ n w count s′ (from + w) (to + w) (more - 1) (left + 1) taken
-    loop-keep s′ p k = next s′ (from + w) (to + w) (more - 1) (left + 1) taken (omega arith) (rw (L .wide) (passing-keep kinds low limit s₀ n count s from to more left taken D some s′ (rw (L .wide) at p) r e k))
+    pub loop-keep : (f : ℕ) → f ≡ from + w → (s′ : List ℕ) → s′ ≡ paste s to (drop from s) w → r ≡ Keeps → Loop kinds low limit s₀ n w count s′ f (to + w) (more - 1) (left + 1) taken
+    loop-keep f g s′ p k = rw g (next s′ (from + w) (to + w) (more - 1) (left + 1) taken (omega arith) (rw (L .wide) (passing-keep kinds low limit s₀ n count s from to more left taken D some s′ (rw (L .wide) at p) r e k)))
 
     module _ (less : taken < limit) where
-      pub loop-settle : (s₁ s′ : List ℕ) → s₁ ≡ take from s ++ (rowWords n (settledRow (rowOf (take (7 + n) (drop from s)) .operation)) ++ drop (from + (7 + n)) s) → s′ ≡ paste s₁ to (drop from s₁) w → r ≡ Settles →
-          Loop kinds low limit s₀ n w count s′ (from + w) (to + w) (more - 1) (left + 1) (taken + 1)
-      loop-settle s₁ s′ f p k = next s′ (from + w) (to + w) (more - 1) (left + 1) (taken + 1) (omega arith) (rw (L .wide) (passing-settle kinds low limit s₀ n count s from to more left taken D some less r e k s₁ s′ f (rw (L .wide) at p)))
+      pub loop-settle : (g : ℕ) → g ≡ from + w → (s₁ s′ : List ℕ) → s₁ ≡ take from s ++ (rowWords n (settledRow (rowOf (take (7 + n) (drop from s)) .operation)) ++ drop (from + (7 + n)) s) → s′ ≡ paste s₁ to (drop from s₁) w → r ≡ Settles →
+          Loop kinds low limit s₀ n w count s′ g (to + w) (more - 1) (left + 1) (taken + 1)
+      loop-settle g h s₁ s′ f p k = rw h (next s′ (from + w) (to + w) (more - 1) (left + 1) (taken + 1) (omega arith) (rw (L .wide) (passing-settle kinds low limit s₀ n count s from to more left taken D some less r e k s₁ s′ f (rw (L .wide) at p))))
 
-      pub loop-drop : r ≡ Drops → Loop kinds low limit s₀ n w count s (from + w) to (more - 1) left (taken + 1)
-      loop-drop k = next s (from + w) to (more - 1) left (taken + 1) (omega arith) (rw (L .wide) (passing-drop kinds low limit s₀ n count s from to more left taken D some less r e k))
+      pub loop-drop : (g : ℕ) → g ≡ from + w → r ≡ Drops → Loop kinds low limit s₀ n w count s g to (more - 1) left (taken + 1)
+      loop-drop g h k = rw h (next s (from + w) to (more - 1) left (taken + 1) (omega arith) (rw (L .wide) (passing-drop kinds low limit s₀ n count s from to more left taken D some less r e k)))
 
       pub two-more : r ≡ DropsBoth → 1 ≤ more - 1
       two-more k = both-more kinds low limit s₀ n count s from to more left taken D some less r e k
 
-      pub loop-both : r ≡ DropsBoth → Loop kinds low limit s₀ n w count s (from + w + w) to (more - 1 - 1) left (taken + 1)
-      loop-both k = next s (from + w + w) to (more - 1 - 1) left (taken + 1) (omega arith) (rw (L .wide) (passing-both kinds low limit s₀ n count s from to more left taken D some less r e k))
+      pub loop-both : (g₁ g : ℕ) → g₁ ≡ from + w → g ≡ g₁ + w → r ≡ DropsBoth → Loop kinds low limit s₀ n w count s g to (more - 1 - 1) left (taken + 1)
+      loop-both g₁ g h₁ h k = rw (h, h₁) (next s (from + w + w) to (more - 1 - 1) left (taken + 1) (omega arith) (rw (L .wide) (passing-both kinds low limit s₀ n count s from to more left taken D some less r e k)))
 
 -- the end
 module _ (kinds low : List ℕ) (limit : ℕ) (s₀ : List ℕ) (n w count : ℕ) (s : List ℕ) (from to more left taken : ℕ) (L : Loop kinds low limit s₀ n w count s from to more left taken) where

@@ -17,3 +17,7 @@ stepsThen kinds low limit rows = stepsTaken limit (kindAt kinds) low rows
 -- Words with a run of them moved down to a place, and zeros where it left room.
 unfoldable pub closedUp : List ℕ → ℕ → ℕ → ℕ → List ℕ
 closedUp words from to run = take to words ++ (take run (drop from words) ++ (replicate (from - to) 0 ++ drop (from + run) words))
+
+-- No place among lent words is as great.
+abbrev pub placeLimit : ℕ
+placeLimit = 9223372036854775808

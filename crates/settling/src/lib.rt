@@ -1,13 +1,13 @@
 // Settling in lent words: rows are passed once, and each that is due is settled or dropped.
 ghost use mathlib.Core.Path.{_≡_};
 ghost use mathlib.Core.List.{_++_, map};
-ghost use Prim.Native.Nat.{_+_, _*_, _≤_};
+ghost use Prim.Native.Nat.{_+_, _*_, _≤_, _<_};
 ghost use lib.ListN.{length, take, drop};
 ghost use Rattle.meaning.specs.Rows.{settledRow};
 ghost use Rattle.layout.specs.Words.{flat, padded, pieces};
 ghost use Rattle.layout.specs.Layout.{rowOf, rowWidth, rowWords};
 ghost use Rattle.steps.specs.Held.{Held, rowsFrom};
-ghost use Rattle.settling.specs.Passing.{closedUp, rowsThen, stepsThen};
+ghost use Rattle.settling.specs.Passing.{closedUp, placeLimit, rowsThen, stepsThen};
 use steps::Step;
 use tags::RowCount;
 
@@ -35,6 +35,14 @@ fn close_up(rows: &mut [u32], from: usize, to: usize, run: usize)
     moves::clear(rows, to + run, from + run);
 }
 
+// Where a pass goes on behind the row at a place: no row above it is due any more, so it need not go back.
+fn resume_at(at: usize, width: usize) -> usize
+    requires { ⌜ at + width < placeLimit ⌝ }
+    ensures { λ r. ⌜ r ≡ at + width ⌝ }
+{
+    at + width
+}
+
 // Takes settling steps until the limit or until no row is due: one pass with a reading and a writing place.
 pub fn pass_rows(
     rows: &mut [u32],
@@ -58,7 +66,7 @@ pub fn pass_rows(
             break;
         }
         let at = from;
-        from += width;
+        from = resume_at(at, width);
         more -= 1;
         match steps::step_for(rows, size, at, RowCount(left), RowCount(more), kinds, low) {
             Step::Keeps => {
@@ -77,7 +85,7 @@ pub fn pass_rows(
             Step::DropsBoth => {
                 taken += 1;
                 more -= 1;
-                from += width;
+                from = resume_at(from, width);
             }
         }
     }

@@ -1,5 +1,5 @@
-use Rattle.settling.proofs.Looping.{Loop, loop-start, row-within, copy-within, copy-again, kept-below, rest-within, rows-held, here-spelt, loop-keep, loop-settle, loop-drop, two-more, loop-both, run-within, run-fits, loop-count, loop-steps, loop-done}
 use mathlib.Core.Logic.{inl, inr, ⊎-elim}
+use Rattle.settling.proofs.Looping.{Loop, loop-start, resume-fits, resume-fits-again, row-within, copy-within, copy-again, kept-below, rest-within, rows-held, here-spelt, loop-keep, loop-settle, loop-drop, two-more, loop-both, run-within, run-fits, loop-count, loop-steps, loop-done}
 use native.Mathlib.Omega.{arith}
 use borrow.Author.Needs.{needs}
 use Rattle.settling.proofs.pass_rows.Statement.{statement}
@@ -8,6 +8,7 @@ use Rattle.settling.proofs.pass_rows.Reads as reads
 use Rattle.settling.proofs.pass_rows.Lts as lts
 use Rattle.moves.proofs.copy_down.Reads as copy-down-reads
 use Rattle.settling.proofs.close_up.Reads as close-up-reads
+use Rattle.settling.proofs.resume_at.Reads as resume-at-reads
 use Rattle.settling.proofs.settle_row.Reads as settle-row-reads
 use Rattle.steps.proofs.step_for.Reads as step-for-reads
 use Rattle.tags.proofs.wide.Reads as wide-reads
@@ -25,8 +26,8 @@ add-width c = search needs
 loop-holds : tie.Need-loop-holds Inv-loop μ-loop
 loop-holds c = search loop-start
 
-add-from : tie.Need-add-from Inv-loop μ-loop
-add-from c = search needs
+resume-at-requires : tie.Need-resume-at-requires Inv-loop μ-loop
+resume-at-requires c κs = search resume-fits
 
 sub-more : tie.Need-sub-more Inv-loop μ-loop
 sub-more c = search needs
@@ -50,7 +51,7 @@ loop-less : tie.Need-loop-less Inv-loop μ-loop
 loop-less c = search needs
 
 loop-again : tie.Need-loop-again Inv-loop μ-loop
-loop-again c = loop-keep _ _ _ _ _ _ _ _ _ _ _ _ _ (c .before .before .before .before .before .before .before .before .before .before .before .loop .inv) (search needs) _ (c .before .before .before .before .before .before .step-for .ensures) _ (c .before .before .copy-down .ensures) (c .before .before .before .before .enum-told .given .1)
+loop-again c = loop-keep _ _ _ _ _ _ _ _ _ _ _ _ _ (c .before .before .before .before .before .before .before .before .before .before .before .before .loop .inv) (search needs) _ (c .before .before .before .before .before .before .step-for .ensures) _ (c .before .before .before .before .before .before .before .before .resume-at .ensures) _ (c .before .before .copy-down .ensures) (c .before .before .before .before .enum-told .given .1)
 
 enum-told-2 : tie.Need-enum-told-2 Inv-loop μ-loop
 enum-told-2 c = search needs
@@ -74,7 +75,7 @@ loop-less-2 : tie.Need-loop-less-2 Inv-loop μ-loop
 loop-less-2 c = search needs
 
 loop-again-2 : tie.Need-loop-again-2 Inv-loop μ-loop
-loop-again-2 c = loop-settle _ _ _ _ _ _ _ _ _ _ _ _ _ (c .before .before .before .before .before .before .before .before .before .before .before .before .before .before .before .loop .inv) (search needs) _ (c .before .before .before .before .before .before .before .before .before .before .step-for .ensures) (search needs) _ _ (c .before .before .before .before .before .before .settle-row .ensures) (c .before .before .copy-down2 .ensures) (c .before .before .before .before .before .before .before .before .enum-told2 .given .1)
+loop-again-2 c = loop-settle _ _ _ _ _ _ _ _ _ _ _ _ _ (c .before .before .before .before .before .before .before .before .before .before .before .before .before .before .before .before .loop .inv) (search needs) _ (c .before .before .before .before .before .before .before .before .before .before .step-for .ensures) (search needs) _ (c .before .before .before .before .before .before .before .before .before .before .before .before .resume-at .ensures) _ _ (c .before .before .before .before .before .before .settle-row .ensures) (c .before .before .copy-down2 .ensures) (c .before .before .before .before .before .before .before .before .enum-told2 .given .1)
 
 enum-told-3 : tie.Need-enum-told-3 Inv-loop μ-loop
 enum-told-3 c = search needs
@@ -97,14 +98,14 @@ add-taken-3 c = search needs
 sub-more-2 : tie.Need-sub-more-2 Inv-loop μ-loop
 sub-more-2 c = search two-more
 
-add-from-2 : tie.Need-add-from-2 Inv-loop μ-loop
-add-from-2 c = search needs
+resume-at-requires-2 : tie.Need-resume-at-requires-2 Inv-loop μ-loop
+resume-at-requires-2 c κs = search resume-fits-again
 
 loop-less-4 : tie.Need-loop-less-4 Inv-loop μ-loop
 loop-less-4 c = search needs
 
 loop-again-4 : tie.Need-loop-again-4 Inv-loop μ-loop
-loop-again-4 c = loop-both _ _ _ _ _ _ _ _ _ _ _ _ _ (c .before .before .before .before .before .before .before .loop .inv) (search needs) _ (c .before .before .step-for .ensures) (search needs) (c .enum-told4 .given .1)
+loop-again-4 c = loop-both _ _ _ _ _ _ _ _ _ _ _ _ _ (c .before .before .before .before .before .before .before .before .before .loop .inv) (search needs) _ (c .before .before .before .step-for .ensures) (search needs) _ _ (c .before .before .before .before .before .resume-at .ensures) (c .resume-at2 .ensures) (c .before .enum-told4 .given .1)
 
 wide-requires : tie.Need-wide-requires Inv-loop μ-loop
 wide-requires c κs = search needs
@@ -122,8 +123,7 @@ same-length : tie.Need-same-length Inv-loop μ-loop
 same-length c = search needs
 
 returns : tie.Need-returns Inv-loop μ-loop
-returns c =
-    let stop = ⊎-elim (λ w. inr (w .left)) (λ w. inl (w .2 .taken)) (c .before .before .before .before .before .loop-test .came) in
+returns c = let stop = ⊎-elim (λ w. inr (w .left)) (λ w. inl (w .2 .taken)) (c .before .before .before .before .before .loop-test .came) in
     (search (loop-count, stop), search (loop-steps, stop), search (loop-done, stop))
 
 pub pass-rows-spec : {M : Type 1} → statement M
@@ -134,7 +134,7 @@ pass-rows-spec =
     μ-loop
     add-width
     loop-holds
-    add-from
+    resume-at-requires
     sub-more
     step-for-requires
     enum-told
@@ -158,7 +158,7 @@ pass-rows-spec =
     enum-told-4
     add-taken-3
     sub-more-2
-    add-from-2
+    resume-at-requires-2
     loop-less-4
     loop-again-4
     wide-requires
