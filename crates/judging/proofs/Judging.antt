@@ -1,16 +1,14 @@
 -- A form judged, way by way; and what the judgement says of the whole of it.
 use mathlib.Core.Path.{_≡_, refl, sym, ap, subst, _∙_}
-use mathlib.Core.Bool.{Bool, true, false}
+use mathlib.Core.Bool.{true}
 use mathlib.Core.List.{List, [], _∷_}
 use Prim.Native.Nat.{ℕ}
 use Rattle.layout.specs.Layout.{holdsTable}
-use Rattle.hexes.specs.Choice.{pick}
 use Rattle.heard.specs.Hearing.{bytesOf, typeOf}
 use Rattle.spoken.specs.Spoken.{openedBy}
 use Rattle.taking.specs.declared.Loaded.{Loaded}
 use Rattle.taking.specs.declared.Loaded.the-variants as loaded
-use Rattle.taking.specs.Taking.{spoilt}
-use Rattle.loading.specs.Loading.{firstTaken, loadedBy, loadEnded, underLoad}
+use Rattle.loading.specs.Loading.{firstTaken, loadedBy, loadEnded}
 use Rattle.loading.proofs.Outcomes.{closes-to-table}
 use Rattle.judging.specs.declared.Judged.{Judged}
 use Rattle.judging.specs.declared.Judged.the-variants as judged
@@ -44,9 +42,9 @@ module _ (words : List ℕ) (before : Judged) where
   unfolding judgedBy
   refused-judged line number e = sym (ap (λ (v : Judged). judgedBy line (v, words)) e)
 
-  pub open-ended : before ≡ judged.Open → (l : Loaded) (x : List ℕ) → (l, x) ≡ loadEnded words → (r : Judged) → r ≡ judgedAs l → (r, x) ≡ judgedEnd (before, words)
+  pub open-ended : before ≡ judged.Open → (l : Loaded) (x : List ℕ) → (l, x) ≡ loadEnded words → (judged.Refused 15, x) ≡ judgedEnd (before, words)
   unfolding judgedEnd
-  open-ended e l x p r q = ap (λ (v : Judged). (v, x)) q ∙ ap (λ (v : Loaded × List ℕ). (judgedAs (v .0), v .1)) p ∙ sym (ap (λ (v : Judged). judgedEnd (v, words)) e)
+  open-ended e l x p = ap (λ (v : Loaded × List ℕ). (judged.Refused 15, v .1)) p ∙ sym (ap (λ (v : Judged). judgedEnd (v, words)) e)
 
   pub closed-ended : before ≡ judged.Closed → (judged.Closed, words) ≡ judgedEnd (before, words)
   unfolding judgedEnd
@@ -87,26 +85,9 @@ by-tabled line judged.Open words t =
 by-tabled line judged.Closed words t = tt
 by-tabled line (judged.Refused number) words t = tt
 
-abbrev NoTable : Loaded → Type 0
-NoTable (loaded.Refused number) = Unit {0}
-NoTable loaded.Taken = Unit {0}
-NoTable loaded.Table = ⊥
-
-ended-tabled : (words : List ℕ) → loadEnded words .0 ≡ loaded.Table → holdsTable (loadEnded words .1) ≡ true
-unfolding loadEnded spoilt
-ended-tabled words = by (holdsTable words) (underLoad words) refl
-  where
-    end : Bool → Bool → Loaded × List ℕ
-    end held under = pick held (loaded.Table, words) (pick under (spoilt words) (loaded.Refused 15, words))
-
-    by : (held under : Bool) → holdsTable words ≡ held → end held under .0 ≡ loaded.Table → holdsTable (end held under .1) ≡ true
-    by true under h e = h
-    by false true h e = absurd (subst NoTable e tt)
-    by false false h e = absurd (subst NoTable e tt)
-
 end-tabled : (verdict : Judged) (words : List ℕ) → Tabled verdict words → Tabled (judgedEnd (verdict, words) .0) (judgedEnd (verdict, words) .1)
 unfolding judgedEnd
-end-tabled judged.Open words t = loaded-tabled (loadEnded words .0) (loadEnded words .1) (ended-tabled words)
+end-tabled judged.Open words t = tt
 end-tabled judged.Closed words t = t
 end-tabled (judged.Refused number) words t = tt
 

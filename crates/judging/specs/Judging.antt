@@ -26,9 +26,9 @@ judgedBy line (judged.Open, words) = (judgedAs (loadedBy line words .0), loadedB
 judgedBy line (judged.Closed, words) = (judged.Refused 15, words)
 judgedBy line (judged.Refused number, words) = (judged.Refused number, words)
 
--- the end of the form, which is 15 too where it "ends before its closing line"
+-- 15 to a form that "ends before its closing line", whatever the space holds
 unfoldable pub judgedEnd : Judging → Judging
-judgedEnd (judged.Open, words) = (judgedAs (loadEnded words .0), loadEnded words .1)
+judgedEnd (judged.Open, words) = (judged.Refused 15, loadEnded words .1)
 judgedEnd (judged.Closed, words) = (judged.Closed, words)
 judgedEnd (judged.Refused number, words) = (judged.Refused number, words)
 

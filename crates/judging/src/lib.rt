@@ -41,12 +41,15 @@ pub fn judge(space: &mut [u32], line: &[u8], before: Judged) -> Judged
     }
 }
 
-// The end of a form.
+// The end of a form, which its closing line must have reached.
 pub fn judge_end(space: &mut [u32], before: Judged) -> Judged
     ensures { λ r. ⌜ (r, now (space .exit)) ≡ judgedEnd (before, now (space .entry)) ⌝ }
 {
     match before {
-        Judged::Open => verdict(loading::load_end(space)),
+        Judged::Open => {
+            loading::load_end(space);
+            Judged::Refused(WRONG)
+        }
         Judged::Closed => Judged::Closed,
         Judged::Refused(number) => Judged::Refused(number),
     }

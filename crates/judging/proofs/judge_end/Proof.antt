@@ -5,7 +5,6 @@ use Rattle.judging.proofs.judge_end.Statement.{statement}
 use Rattle.judging.proofs.judge_end.Tie as tie
 use Rattle.judging.proofs.judge_end.Reads as reads
 use Rattle.judging.proofs.judge_end.Lts as lts
-use Rattle.judging.proofs.verdict.Reads as verdict-reads
 use Rattle.loading.proofs.load_end.Reads as load-end-reads
 
 enum-told : tie.Need-enum-told
@@ -13,9 +12,6 @@ enum-told c = search needs
 
 load-end-requires : tie.Need-load-end-requires
 load-end-requires c κs = search needs
-
-verdict-requires : tie.Need-verdict-requires
-verdict-requires c κs = search needs
 
 enum-told-2 : tie.Need-enum-told-2
 enum-told-2 c = search needs
@@ -41,7 +37,6 @@ judge-end-spec =
     (tie.spec
     enum-told
     load-end-requires
-    verdict-requires
     enum-told-2
     enum-known-before
     same-length
