@@ -22,7 +22,11 @@ use Rattle.telling.specs.Telling.{listBytes, refusalBytes, replyBytes}
 use Rattle.spoken.specs.Spoken.{frameBytes, frameOf, headerRead, localOf, openedAs, openedBy, receivedAs, receivedOn, settledAs, settledOn}
 use Rattle.answering.specs.Answering.{answerOn, doneBytes, issueAnswer, issuedBytes, openedBytes, questionAnswer, receivedBytes, secondOpening, settledBytes}
 use Rattle.heard.specs.Hearing.{typeOf}
-use Rattle.calls.specs.Answers.{answerOf}
+use lib.ListN.{take}
+use Rattle.calls.specs.declared.Answered.{Answered}
+use Rattle.calls.specs.declared.Answered.the-variants as answered
+use Rattle.lines.specs.Named.{printingRead}
+use Rattle.calls.specs.Answers.{answerOf, answeredBy, linesFor, longestAnswer, printedAt, spaceAfter}
 use Rattle.calls.specs.Lines.{linesAfter}
 
 -- The characters of a text, and its line.
@@ -37,6 +41,17 @@ lineSaying text = characters text ++ (lf ∷ [])
 unfoldable pub printedFor : List (List ℕ) → List ℕ → List (List ℕ)
 printedFor [] words = []
 printedFor (line ∷ rest) words = hexLine (answerOf line words .0) ∷ printedFor rest (answerOf line words .1)
+
+-- The same through `answer`: its first output line for each, from a space for answers that holds zeros.
+unfoldable pub charactersOf : Answered → ℕ
+charactersOf (answered.Line n) = n
+charactersOf answered.End = 0
+
+unfoldable pub answersFor : List (List ℕ) → List ℕ → List (List ℕ)
+answersFor [] words = []
+answersFor (line ∷ rest) words =
+    let told = answeredBy line 0 words (zeros longestAnswer) in
+    take (charactersOf (told .0)) (told .1 .1) ∷ answersFor rest (told .1 .0)
 
 -- A space of just the words of the session's table.
 abbrev pub space : List ℕ
@@ -69,7 +84,7 @@ wholeSession =
     ∷ []
 
 -- Before an accepted opening: "A line before an accepted opening gets `ff0e`, unless it is itself of type `10`". The third has half a byte, the fourth
--- no kind, the fifth a group of 17, the sixth a table for which the space is too small, the last a capital digit.
+-- no kind, the fifth a group of 17, the sixth a table for which the space is too small, the seventh with a capital digit.
 abbrev pub beforeOpening : List Exchange
 beforeOpening =
     (lineSaying "40000400000000" gets "ff0e")
@@ -101,6 +116,7 @@ atTable =
 -- The session, and the table that its `60` prints: `forms`' `session-form` has the lines of that.
 pub record Session : Type 0 where
   pub whole-session : Right wholeSession
+  pub through-answer : answersFor (map (λ (e : Exchange). e .given) wholeSession) space ≡ map (λ (e : Exchange). e .printed) wholeSession
   pub ends-with : linesAfter (map (λ (e : Exchange). e .given) wholeSession) space ≡ wordsOf sessionSaved
   pub before-opening : Right beforeOpening
   pub at-table : Right atTable
@@ -110,5 +126,5 @@ unfolding allWords complement ofComplement holdsTable isSpelt rewritten tableOf 
     pairOf pairs lengthOf read written entries fieldsRead hasShape padded startsWith lineBytes writtenEach isOf lineRead issueRead openingRead operationRead
     questionRead settlingRead bytesOf listBytes refusalBytes replyBytes frameBytes frameOf headerRead localOf openedAs openedBy receivedAs receivedOn settledAs
     settledOn answerOn doneBytes issueAnswer issuedBytes openedBytes questionAnswer receivedBytes secondOpening settledBytes answerOf typeOf characters
-    lineSaying printedFor linesAfter
-session = record { whole-session = refl; ends-with = refl; before-opening = refl; at-table = refl }
+    lineSaying printedFor linesAfter answeredBy linesFor printedAt spaceAfter printingRead charactersOf answersFor
+session = record { whole-session = refl; through-answer = refl; ends-with = refl; before-opening = refl; at-table = refl }
