@@ -27,11 +27,11 @@ use Rattle.taking.specs.declared.Loaded.the-variants as loaded
 use Rattle.taking.specs.Taking.{clockTaken, closed, finished, joined, joins, lastTaken, rowOrClosing, rowSaid, rowTaken, spoilt, took, totalTaken}
 use Rattle.loading.specs.declared.Next.{Next}
 use Rattle.loading.specs.declared.Next.the-variants as next
-use Rattle.loading.specs.Loading.{begun, firstTaken, loadedBy, nextIn, takenAs, underLoad}
+use Rattle.loading.specs.Loading.{begun, firstTaken, loadEnded, loadedBy, nextIn, takenAs, underLoad}
 use Rattle.calls.specs.Conditions.{isLineOf, openConditions, openResult}
 use Rattle.calls.proofs.Answering.{starts-type}
 use Rattle.calls.proofs.ExactlyWhen.{Exactly, exactly, open-told}
-use Rattle.continuing.specs.LoadConditions.{beginConditions, beginResult, isNext, loadConditions, loadResult, numberOfLoaded, zeroed}
+use Rattle.continuing.specs.LoadConditions.{beginConditions, beginResult, endConditions, endLeft, isNext, loadConditions, loadResult, numberOfLoaded, zeroed}
 
 -- a line of an opening's shape is of its type
 opening-type : (line : List ℕ) (more : ℕ) → isLineOf opening more line ≡ true → typeOf line ≡ 16
@@ -106,16 +106,28 @@ module _ (line words : List ℕ) where
       by false = refl
   result-none next.Nothing = refl
 
+end-told : (words : List ℕ) → loadEnded words ≡ cond (eqb (firstOf (endConditions words)) 0) (loaded.Table, words) (loaded.Refused (firstOf (endConditions words)), endLeft words)
+unfolding loadEnded endConditions endLeft spoilt zeroed
+end-told words = by (holdsTable words) (underLoad words)
+  where
+    by : (t u : Bool) → pick {A = Loaded × List ℕ} t (loaded.Table, words) (pick u (loaded.Refused 15, replicate (length words) 0) (loaded.Refused 15, words))
+        ≡ cond (eqb (firstOf ((15 when not t) ∷ [])) 0) (loaded.Table, words) (loaded.Refused (firstOf ((15 when not t) ∷ [])), pick u (replicate (length words) 0) words)
+    by true u = refl
+    by false true = refl
+    by false false = refl
+
 -- 1, 13 and 15 of a line of a form, exactly when: where no load is under way nothing is written, under load a refusal leaves zeros.
 pub record EachLine : Type 0 where
   pub beginning : (line words : List ℕ) → underLoad words ≡ false → Exactly numberOfLoaded loaded.Refused (15 ∷ 1 ∷ 13 ∷ []) (beginConditions line words) words (beginResult line words) (loadedBy line words)
   pub under-load : (line words : List ℕ) → underLoad words ≡ true → Exactly numberOfLoaded loaded.Refused (15 ∷ []) (loadConditions (nextIn words) (bytesOf line) words) (zeroed words) (loadResult (nextIn words) (bytesOf line) words) (loadedBy line words)
+  pub ending : (words : List ℕ) → Exactly numberOfLoaded loaded.Refused (15 ∷ []) (endConditions words) (endLeft words) (loaded.Table, words) (loadEnded words)
 
 pub exactly-when : EachLine
-unfolding beginConditions openConditions beginResult loadConditions numberOfLoaded loadedBy
+unfolding endConditions beginConditions openConditions beginResult loadConditions numberOfLoaded loadedBy
 exactly-when = record {
   beginning = λ line words u. exactly numberOfLoaded loaded.Refused (beginConditions line words) words (beginResult line words) (loadedBy line words) (λ n. refl) refl (begin-told line words u) refl;
   under-load = λ line words u.
       exactly numberOfLoaded loaded.Refused (loadConditions (nextIn words) (bytesOf line) words) (zeroed words) (loadResult (nextIn words) (bytesOf line) words) (loadedBy line words) (λ n. refl)
       (result-none line words (nextIn words)) (rw u (load-told line words (nextIn words))) refl;
+  ending = λ words. exactly numberOfLoaded loaded.Refused (endConditions words) (endLeft words) (loaded.Table, words) (loadEnded words) (λ n. refl) refl (end-told words) refl;
 }

@@ -18,6 +18,7 @@ use Rattle.taking.specs.declared.Loaded.the-variants as loaded
 use Rattle.taking.specs.Taking.{joined, joins, rowSaid, took}
 use Rattle.loading.specs.declared.Next.{Next}
 use Rattle.loading.specs.declared.Next.the-variants as next
+use Rattle.loading.specs.Loading.{underLoad}
 use Rattle.calls.specs.Conditions.{openConditions, openResult}
 
 -- The number of an answer, 0 where it is no refusal.
@@ -66,3 +67,11 @@ loadResult next.Nothing bytes words = (loaded.Taken, words)
 -- "and zeroes the table space"
 unfoldable pub zeroed : List ℕ → List ℕ
 zeroed words = replicate (length words) 0
+
+-- The end of a form: "a form that ends before its closing line", or none at all.
+unfoldable pub endConditions : List ℕ → List Refusal
+endConditions words = (15 when not (holdsTable words)) ∷ []
+
+-- "so does a form that ends too early"; where no load was, nothing is written.
+unfoldable pub endLeft : List ℕ → List ℕ
+endLeft words = pick (underLoad words) (zeroed words) words
