@@ -18,6 +18,7 @@ pub mod lines;
 pub mod material;
 pub mod program;
 pub mod refusal;
+pub mod replay;
 pub mod rng;
 pub mod rows;
 pub mod rules;
