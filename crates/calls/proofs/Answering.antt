@@ -192,7 +192,7 @@ starts-type n kind (h ∷ l ∷ line) e = by (isDigit h && isDigit l) e
     by true f = eqb-true (byteOf h l) kind f
     by false f = absurd (false≢true f)
 
-printing-type : (line : List ℕ) → printingRead (bytesOf line) ≡ true → typeOf line ≡ 96
+pub printing-type : (line : List ℕ) → printingRead (bytesOf line) ≡ true → typeOf line ≡ 96
 unfolding printingRead isOf hasShape bytesOf startsWith lengthOf
 printing-type line = by (isLine 261 line)
   where

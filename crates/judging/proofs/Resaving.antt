@@ -82,7 +82,7 @@ resaved-within verdict k words out r x y e n f =
     line-at-front (resavedLines verdict words) k out r y (ap (λ (q : Answered × (List ℕ × List ℕ)). (q .0, q .1 .1)) e) n f
 
 -- there are no more than 562 of them
-resaved-count : (verdict : Judged) (words : List ℕ) → length (resavedLines verdict words) ≤ 562
+pub resaved-count : (verdict : Judged) (words : List ℕ) → length (resavedLines verdict words) ≤ 562
 unfolding resavedLines
 resaved-count judged.Open words = let r : 0 ≤ 562 = omega arith in r
 resaved-count judged.Closed words = lines-count printing words

@@ -6,19 +6,12 @@ ghost use Rattle.judging.specs.Judging.{judgedBy};
 ghost use Rattle.keeping.specs.Feeding.{fed, Going, heldFed, heldTaken, LastPiece, taken, WholeLines};
 ghost use Rattle.ranges.specs.Spaces.{mostWords};
 ghost use Rattle.resave.specs.Ending.{StillGoing};
-use calls::Answered;
+use gathering::LINE;
+use gathering::MOST_WORDS;
+use gathering::PENDING;
+use gathering::Waiting;
 use judging::Judged;
 use libc::STDIN_FILENO;
-use libc::STDOUT_FILENO;
-
-// The words of the greatest table: 16 stations, 512 rows.
-const MOST_WORDS: usize = 12151;
-
-// The characters of the longest line. Of a longer one so many are kept, which get what the whole line gets (law `line-answered` of `keeping`).
-const LINE: usize = 2 * lines::LONGEST + 1;
-
-// The lines of the longest form: its opening, D, 15 last vectors, 32 totals, 512 rows, its closing line.
-const MOST_LINES: usize = 562;
 
 // What is kept from one byte of input to the next: so many characters of a line, and what is known of the form.
 struct Kept {
@@ -98,23 +91,15 @@ fn end(space: &mut [u32], line: &[u8], kept: Kept) -> Judged
     judging::judge(space, &line[0..have], known)
 }
 
-// Every output line for a form that is at its end, until one can't be written.
+// The form is at its end: its output lines, written at once.
 fn print(space: &mut [u32], known: Judged) {
-    let mut out = [0u8; calls::LONGEST_ANSWER];
-    let mut k = 0;
-    while k < MOST_LINES {
-        match judging::resave(space, known, k, &mut out) {
-            Answered::Line(n) => {
-                if !io::write_all(STDOUT_FILENO, &out[0..n]) {
-                    return;
-                }
-            }
-            Answered::End => {
-                return;
-            }
-        }
-        k += 1;
-    }
+    let mut pending = [0u8; PENDING];
+    let none = Waiting {
+        count: 0,
+        open: true,
+    };
+    let waiting = gathering::print(space, known, &mut pending, none);
+    gathering::flush(&pending, waiting);
 }
 
 fn main() {

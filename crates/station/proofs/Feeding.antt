@@ -1,41 +1,19 @@
 -- Lines that come in pieces, answered as they end, and what main keeps.
-use Prim.Native.Nat.{ℕ, zero, suc, _+_, _-_, _≤_, _<_}
+use Prim.Native.Nat.{ℕ, _+_, _-_, _≤_, _<_}
 use mathlib.Core.Path.{_≡_, refl, subst, _∙_}
 use mathlib.Core.List.{List, []}
 use native.Mathlib.Omega.{arith}
-use lib.ListN.{length, getD, take, replicate}
+use lib.ListN.{length, getD, take}
 use Rattle.hexes.specs.Hex.{lf}
 use Rattle.hexes.specs.Keeping.{kept}
 use Rattle.ranges.specs.Spaces.{mostWords}
-use Rattle.heard.specs.Hearing.{bytesOf, typeOf}
 use Rattle.keeping.specs.Feeding.{fed, Going, heldFed, heldTaken, LastPiece, taken, WholeLines}
 use Rattle.keeping.proofs.Feeding as keeping
-use Rattle.calls.specs.declared.Answered.{Answered}
-use Rattle.calls.specs.declared.Answered.the-variants.{Line, End}
-use Rattle.calls.specs.Answers.{answeredBy, longestAnswer}
+use Rattle.gathering.specs.Gathering.{HasRoom, replied}
+use Rattle.gathering.proofs.Alike.{replied-alike}
 use Rattle.station.specs.declared.More.{More}
 use Rattle.station.specs.declared.More.the-variants as more
-use Rattle.station.specs.Replying.{HasRoom, Held, mostLines, orEnd, pushed, replied, repliedFrom}
 use Rattle.station.specs.Ending.{StillGoing}
-use Rattle.station.proofs.Alike.{answered-alike}
-
--- lines that say the same bytes and have the same type leave the same behind
-module _ (a b : List ℕ) (bytes : bytesOf a ≡ bytesOf b) (type : typeOf a ≡ typeOf b) where
-  same : (k : ℕ) (words out : List ℕ) → answeredBy a k words out ≡ answeredBy b k words out
-  same = answered-alike a b bytes type
-
-  from-alike : (left k : ℕ) (held : Held) (out : List ℕ) → repliedFrom left a k held out ≡ repliedFrom left b k held out
-  unfolding repliedFrom
-  from-alike zero k held out = refl
-  from-alike (suc left) k held out = rw (same k (held .0) out) (go (answeredBy b k (held .0) out) (λ (n : ℕ) (words y : List ℕ). from-alike left (suc k) (words, pushed (held .1 .1) (held .1 .0) (take n y)) y))
-    where
-      go : (told : Answered × (List ℕ × List ℕ)) → ((n : ℕ) (words y : List ℕ) → repliedFrom left a (suc k) (words, pushed (held .1 .1) (held .1 .0) (take n y)) y ≡ repliedFrom left b (suc k) (words, pushed (held .1 .1) (held .1 .0) (take n y)) y) → orEnd (λ (n : ℕ). repliedFrom left a (suc k) (told .1 .0, pushed (held .1 .1) (held .1 .0) (take n (told .1 .1))) (told .1 .1)) (told .1 .0, held .1) (told .0) ≡ orEnd (λ (n : ℕ). repliedFrom left b (suc k) (told .1 .0, pushed (held .1 .1) (held .1 .0) (take n (told .1 .1))) (told .1 .1)) (told .1 .0, held .1) (told .0)
-      go (Line n, (words, y)) next = next n words y
-      go (End, (words, y)) next = refl
-
-  replied-alike : (held : Held) → replied a held ≡ replied b held
-  unfolding replied
-  replied-alike held = from-alike mostLines 0 held (replicate longestAnswer 0)
 
 -- the ways through take
 module _ (space : List ℕ) (have b n : ℕ) (s : List ℕ) (e : (n, s) ≡ kept space have b) (words : List ℕ) (count : ℕ) (pending : List ℕ) where

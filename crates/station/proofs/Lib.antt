@@ -1,3 +1,1 @@
-pub mod Alike
-pub mod Replying
 pub mod Feeding

@@ -1,2 +1,1 @@
-pub mod Replying
 pub mod Ending

@@ -1,17 +1,16 @@
--- `station::reply` meets its contract. The loop keeps `Replying`: the output lines from the k-th on are still to be asked for.
-use Rattle.station.proofs.Replying.{Replying, replying-start, replying-turn, replying-ended, replying-done}
-use Rattle.station.proofs.Alike.{line-short, line-within}
+-- `gathering::reply` meets its contract. The loop keeps `Replying`: the output lines from the k-th on are still to be asked for.
+use Rattle.gathering.proofs.Replying.{Replying, replying-start, replying-turn, replying-ended, replying-done}
+use Rattle.gathering.proofs.Fitting.{line-short, line-within}
 use Prim.Native.Nat.{_-_}
 use borrow.Author.Needs.{needs}
-use Rattle.station.specs.Replying.{mostLines}
-use Rattle.station.proofs.reply.Statement.{statement}
-use Rattle.station.proofs.reply.Tie as tie
+use Rattle.gathering.proofs.reply.Statement.{statement}
+use Rattle.gathering.proofs.reply.Tie as tie
 
 abbrev Inv-loop : tie.InvT-loop
-Inv-loop space₀ line pending₀ out₀ count₀ open₀ k₀ space pending out count «open» k = Replying line space₀ count₀ pending₀ space out count pending k
+Inv-loop space₀ line pending₀ out₀ count₀ open₀ k₀ space pending out count «open» k = Replying line space₀ count₀ pending₀ space count pending k
 
 abbrev μ-loop : tie.MeasureT-loop
-μ-loop space₀ line pending₀ out₀ count₀ open₀ k₀ space pending out count «open» k = mostLines - k
+μ-loop space₀ line pending₀ out₀ count₀ open₀ k₀ space pending out count «open» k = 562 - k
 
 loop-holds : tie.Need-loop-holds Inv-loop μ-loop
 loop-holds c = search (replying-start, needs)
@@ -53,7 +52,7 @@ loop-less : tie.Need-loop-less Inv-loop μ-loop
 loop-less c = search needs
 
 loop-again : tie.Need-loop-again Inv-loop μ-loop
-loop-again c = replying-turn _ _ _ _ _ _ _ _ _ (c .before .before .before .before .before .before .before .before .before .before .before .before .before .before .before .loop .inv) (search needs) _ _ _ _ (c .before .before .before .before .before .before .before .before .before .before .before .answer .ensures) _ _ (c .before .before .push .ensures .0) (c .before .before .push .ensures .1) (c .before .before .before .before .before .before .before .n .given .1) (search needs) (search needs)
+loop-again c = search replying-turn
 
 same-length-3 : tie.Need-same-length-3 Inv-loop μ-loop
 same-length-3 c = search needs

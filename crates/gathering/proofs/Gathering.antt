@@ -1,18 +1,19 @@
--- The output lines for a line join those that wait, one after the other.
-use Prim.Native.Nat.{ℕ, suc, _+_, _-_, _≤_, _<_}
-use mathlib.Core.Path.{_≡_, refl, sym, ap, _∙_}
+-- Output lines join those that wait, one after the other.
+use Prim.Native.Nat.{ℕ, zero, suc, _+_, _-_, _≤_, _<_}
+use mathlib.Core.Path.{_≡_, refl, sym, ap, _∙_, subst}
 use mathlib.Core.List.{List, [], _∷_, _++_}
 use native.Mathlib.Numerals.{add-one}
 use native.Mathlib.Omega.{arith}
 use borrow.Author.Tests.{le-leb, lt-leb}
-use lib.ListN.{length, getD, take, drop, set, replicate, drop-of-length-le, length-set, take-append-drop}
-use lib.Seq.{append-snoc, drop-cons, drop-set-lt, take-suc-set}
+use lib.ListN.{length, getD, take, drop, set, drop-of-length-le, length-set, take-append-drop}
+use lib.Seq.{append-snoc, drop-cons, drop-set-lt, take-at, take-suc-set}
+use Rattle.hexes.specs.Hex.{hexLine}
 use Rattle.hexes.specs.Keeping.{kept, keptAll}
 use Rattle.hexes.proofs.Keeping.{kept-room}
 use Rattle.calls.specs.declared.Answered.{Answered}
 use Rattle.calls.specs.declared.Answered.the-variants.{Line, End}
-use Rattle.calls.specs.Answers.{answeredBy, longestAnswer}
-use Rattle.station.specs.Replying.{HasRoom, Held, joined, mostLines, orEnd, pushed, replied, repliedFrom}
+use Rattle.calls.specs.Answers.{longestAnswer, printedAt}
+use Rattle.gathering.specs.Gathering.{Gathered, gathered, HasRoom, joined, pushed}
 
 -- where there is room every character is kept
 kept-joined : (text space : List ℕ) (have : ℕ) → have + length text ≤ length space → keptAll space have text ≡ joined space have text
@@ -55,11 +56,11 @@ module _ (space₀ : List ℕ) (from : ℕ) (text space : List ℕ) (at i : ℕ)
 
 -- the ways through push
 module _ (pending : List ℕ) (count : ℕ) (text : List ℕ) (n : ℕ) (s : List ℕ) where
-  pub pushed-joined : length text ≤ length pending - count → (n, s) ≡ joined pending count text → (n, s) ≡ pushed pending count text
+  pub pushed-joined : length text ≤ length pending - count → (n, s) ≡ joined pending count text → (n, s) ≡ pushed text (count, pending)
   unfolding pushed
   pushed-joined h e = rw (le-leb (length text) (length pending - count) h) e
 
-  pub pushed-alone : length pending - count < length text → (n, s) ≡ joined pending 0 text → (n, s) ≡ pushed pending count text
+  pub pushed-alone : length pending - count < length text → (n, s) ≡ joined pending 0 text → (n, s) ≡ pushed text (count, pending)
   unfolding pushed
   pushed-alone h e = rw (lt-leb (length text) (length pending - count) h) e
 
@@ -72,47 +73,41 @@ module _ (pending : List ℕ) (count : ℕ) (text : List ℕ) (n : ℕ) (s : Lis
     unfolding joined
     alone-room h e = record { within = omega (arith, ap (λ (q : ℕ × List ℕ). q .0) e, H .room); room = omega (arith, H .room) }
 
--- the output lines from the k-th on are still to be asked for
-pub record Replying (line words₀ : List ℕ) (count₀ : ℕ) (pending₀ words out : List ℕ) (count : ℕ) (pending : List ℕ) (k : ℕ) : Type 0 where
-  pub left : replied line (words₀, (count₀, pending₀)) ≡ repliedFrom (mostLines - k) line k (words, (count, pending)) out
-  pub place : k ≤ mostLines
-  pub has-room : HasRoom count pending
-  pub words-long : length words ≡ length words₀
-  pub pending-long : length pending ≡ length pending₀
+-- the line at a place joins, and those behind it are left
+abbrev Told : List (List ℕ) → ℕ → Answered → List ℕ → Type 0
+Told lines k (Line n) out = (waiting : Gathered) → gathered (drop k lines) waiting ≡ gathered (drop (suc k) lines) (pushed (take n out) waiting)
+Told lines k End out = length lines ≤ k
 
-module _ (line words₀ : List ℕ) (count₀ : ℕ) (pending₀ : List ℕ) where
-  pub replying-start : (out : List ℕ) → out ≡ replicate longestAnswer 0 → HasRoom count₀ pending₀ → Replying line words₀ count₀ pending₀ words₀ out count₀ pending₀ 0
-  unfolding replied
-  replying-start out e h = record { left = rw e refl; place = omega arith; has-room = h; words-long = refl; pending-long = refl }
+told : (lines : List (List ℕ)) (k : ℕ) (out : List ℕ) → Told lines k (printedAt lines k out .0) (printedAt lines k out .1)
+unfolding printedAt gathered
+told [] zero out = omega arith
+told [] (suc k) out = omega arith
+told (bytes ∷ rest) zero out = λ waiting. ap (λ (t : List ℕ). gathered rest (pushed t waiting)) (sym (take-at (hexLine bytes) (drop (length (hexLine bytes)) out) (length (hexLine bytes)) refl))
+told (bytes ∷ rest) (suc k) out = by (printedAt rest k out .0) (printedAt rest k out .1) (told rest k out)
+  where
+    by : (r : Answered) (y : List ℕ) → Told rest k r y → Told (bytes ∷ rest) (suc k) r y
+    by (Line n) y t = t
+    by End y t = omega (arith, t)
 
-  module _ (words out : List ℕ) (count : ℕ) (pending : List ℕ) (k : ℕ) (R : Replying line words₀ count₀ pending₀ words out count pending k) where
-    -- what one output line does
-    abbrev afterTold : ℕ → Answered × (List ℕ × List ℕ) → Held
-    afterTold n told =
-        orEnd
-        (λ (m : ℕ). repliedFrom n line (suc k) (told .1 .0, pushed pending count (take m (told .1 .1))) (told .1 .1))
-        (told .1 .0, (count, pending))
-        (told .0)
+module _ (lines : List (List ℕ)) (waiting₀ : Gathered) (k count : ℕ) (pending : List ℕ) (left : gathered lines waiting₀ ≡ gathered (drop k lines) (count, pending)) (out : List ℕ) (r : Answered) (y : List ℕ) (e : (r, y) ≡ printedAt lines k out) where
+  as-told : Told lines k r y
+  as-told = subst (λ (p : Answered × List ℕ). Told lines k (p .0) (p .1)) (sym e) (told lines k out)
 
-    one : k < mostLines → replied line (words₀, (count₀, pending₀)) ≡ afterTold (mostLines - suc k) (answeredBy line k words out)
-    unfolding repliedFrom
-    one h = let more : mostLines - k ≡ suc (mostLines - suc k) = omega arith in R .left ∙ ap (λ (n : ℕ). repliedFrom n line k (words, (count, pending)) out) more
+  -- one more line
+  pub one-more : (n m : ℕ) (p : List ℕ) → r ≡ Line n → (m, p) ≡ pushed (take (n - 0) y) (count, pending) → gathered lines waiting₀ ≡ gathered (drop (k + 1) lines) (m, p)
+  one-more n m p f g =
+      let z : n - 0 ≡ n = omega arith in
+      let t : Told lines k (Line n) y = subst (λ (q : Answered). Told lines k q y) f as-told in
+      rw (add-one k) (left ∙ t (count, pending) ∙ ap (gathered (drop (suc k) lines)) (ap (λ (a : ℕ). pushed (take a y) (count, pending)) (sym z) ∙ sym g))
 
-    pub replying-turn : k < mostLines → (r : Answered) (n : ℕ) (x y : List ℕ) → (r, (x, y)) ≡ answeredBy line k words out → (m : ℕ) (p : List ℕ) → (m, p) ≡ pushed pending count (take (n - 0) y) → HasRoom m p → r ≡ Line n → length x ≡ length words → length p ≡ length pending → Replying line words₀ count₀ pending₀ x y m p (k + 1)
-    replying-turn h r n x y e m p g w f v u =
-        let z : n - 0 ≡ n = omega arith in
-        let next : pushed pending count (take n y) ≡ (m, p) = ap (λ (a : ℕ). pushed pending count (take a y)) (sym z) ∙ sym g in
-        record {
-          left = rw (add-one k) (one h ∙ ap (afterTold (mostLines - suc k)) (sym e) ∙ ap (λ (q : Answered). afterTold (mostLines - suc k) (q, (x, y))) f ∙ ap (λ (q : ℕ × List ℕ). repliedFrom (mostLines - suc k) line (suc k) (x, q) y) next);
-          place = omega arith;
-          has-room = w;
-          words-long = v ∙ R .words-long;
-          pending-long = u ∙ R .pending-long;
-        }
+  -- there is none
+  pub no-more : r ≡ End → gathered lines waiting₀ ≡ (count, pending)
+  unfolding gathered
+  no-more f =
+      let t : length lines ≤ k = subst (λ (q : Answered). Told lines k q y) f as-told in
+      left ∙ ap (λ (l : List (List ℕ)). gathered l (count, pending)) (drop-of-length-le lines t)
 
-    pub replying-ended : k < mostLines → (r : Answered) (x y : List ℕ) → (r, (x, y)) ≡ answeredBy line k words out → r ≡ End → (x, (count, pending)) ≡ replied line (words₀, (count₀, pending₀))
-    replying-ended h r x y e f = sym (one h ∙ ap (afterTold (mostLines - suc k)) (sym e) ∙ ap (λ (q : Answered). afterTold (mostLines - suc k) (q, (x, y))) f)
-
-    pub replying-done : mostLines ≤ k → (words, (count, pending)) ≡ replied line (words₀, (count₀, pending₀))
-    unfolding repliedFrom
-    replying-done h = let none : mostLines - k ≡ 0 = omega arith in sym (R .left ∙ ap (λ (n : ℕ). repliedFrom n line k (words, (count, pending)) out) none)
+-- nor behind as many as there are
+pub all-gathered : (lines : List (List ℕ)) (waiting₀ : Gathered) (k count : ℕ) (pending : List ℕ) → gathered lines waiting₀ ≡ gathered (drop k lines) (count, pending) → length lines ≤ k → gathered lines waiting₀ ≡ (count, pending)
+unfolding gathered
+all-gathered lines waiting₀ k count pending left h = left ∙ ap (λ (l : List (List ℕ)). gathered l (count, pending)) (drop-of-length-le lines h)

@@ -1,8 +1,8 @@
--- `station::push` meets its contract.
-use Rattle.station.proofs.Replying.{alone-room, joined-room, pushed-alone, pushed-joined}
+-- `gathering::push` meets its contract.
+use Rattle.gathering.proofs.Gathering.{alone-room, joined-room, pushed-alone, pushed-joined}
 use borrow.Author.Needs.{needs}
-use Rattle.station.proofs.push.Statement.{statement}
-use Rattle.station.proofs.push.Tie as tie
+use Rattle.gathering.proofs.push.Statement.{statement}
+use Rattle.gathering.proofs.push.Tie as tie
 
 sub-if1 : tie.Need-sub-if1
 sub-if1 c = search needs

@@ -1,10 +1,10 @@
--- `station::append` meets its contract. The loop keeps `Appending`: what is left of the text is still to be kept.
+-- `gathering::append` meets its contract. The loop keeps `Appending`: what is left of the text is still to be kept.
 use lib.ListN.{length}
 use Prim.Native.Nat.{_-_}
-use Rattle.station.proofs.Replying.{Appending, appending-start, appending-turn, appending-done}
+use Rattle.gathering.proofs.Gathering.{Appending, appending-start, appending-turn, appending-done}
 use borrow.Author.Needs.{needs}
-use Rattle.station.proofs.append.Statement.{statement}
-use Rattle.station.proofs.append.Tie as tie
+use Rattle.gathering.proofs.append.Statement.{statement}
+use Rattle.gathering.proofs.append.Tie as tie
 
 abbrev Inv-loop : tie.InvT-loop
 Inv-loop pending₀ from text at₀ i₀ pending at i = Appending pending₀ from text pending at i

@@ -1,0 +1,4 @@
+pub mod Alike
+pub mod Fitting
+pub mod Gathering
+pub mod Replying
