@@ -21,7 +21,7 @@ use Rattle.telling.specs.Telling.{refusalBytes}
 use Rattle.calls.specs.declared.Answered.{Answered}
 use Rattle.calls.specs.declared.Answered.the-variants as answered
 use Rattle.calls.specs.Answers.{answeredBy, linesFor, printedAt}
-use Rattle.calls.proofs.Counting.{behind-last, line-at-front, lines-count}
+use Rattle.calls.proofs.Counting.{lines-count}
 use Rattle.calls.proofs.Answering.{printing-stays, refused-first, told-end, told-line}
 use Rattle.judging.specs.declared.Judged.{Judged}
 use Rattle.judging.specs.declared.Judged.the-variants as judged
@@ -75,19 +75,9 @@ module _ (words out : List ℕ) (k : ℕ) (before : Judged) where
   unfolding resavedBy resavedLines
   refused-resaved number e r y p = ap (λ (q : Answered × List ℕ). (q .0, (words, q .1))) p ∙ sym (ap (λ (v : Judged). resavedBy v k words out) e)
 
--- an output line stands at the front of its space
-pub resaved-within : (verdict : Judged) (k : ℕ) (words out : List ℕ) (r : Answered) (x y : List ℕ) → (r, (x, y)) ≡ resavedBy verdict k words out → (n : ℕ) → r ≡ answered.Line n → n ≤ length y
-unfolding resavedBy
-resaved-within verdict k words out r x y e n f =
-    line-at-front (resavedLines verdict words) k out r y (ap (λ (q : Answered × (List ℕ × List ℕ)). (q .0, q .1 .1)) e) n f
-
 -- there are no more than 562 of them
 pub resaved-count : (verdict : Judged) (words : List ℕ) → length (resavedLines verdict words) ≤ 562
 unfolding resavedLines
 resaved-count judged.Open words = let r : 0 ≤ 562 = omega arith in r
 resaved-count judged.Closed words = lines-count printing words
 resaved-count (judged.Refused number) words = let r : 1 ≤ 562 = omega arith in r
-
-pub resaved-ends : (verdict : Judged) (words out : List ℕ) → resavedBy verdict 562 words out ≡ (answered.End, (words, out))
-unfolding resavedBy
-resaved-ends verdict words out = ap (λ (p : Answered × List ℕ). (p .0, (words, p .1))) (behind-last (resavedLines verdict words) 562 out (resaved-count verdict words))
