@@ -23,11 +23,11 @@ use Rattle.spoken.specs.Spoken.{frameBytes, frameOf, headerRead, localOf, opene
 use Rattle.answering.specs.Answering.{answerOn, doneBytes, issueAnswer, issuedBytes, openedBytes, questionAnswer, receivedBytes, secondOpening, settledBytes}
 use Rattle.heard.specs.Hearing.{typeOf}
 use lib.ListN.{take}
 use Rattle.calls.specs.declared.Answered.{Answered}
 use Rattle.calls.specs.declared.Answered.the-variants as answered
 use Rattle.lines.specs.Named.{printingRead}
 use Rattle.calls.specs.Answers.{answerOf, answeredBy, linesFor, longestAnswer, printedAt, spaceAfter}
-use Rattle.calls.specs.Lines.{linesAfter}
+use Rattle.agreeing.specs.Lines.{linesAfter}
 
 -- The characters of a text, and its line.
 unfoldable pub characters : String → List ℕ

@@ -24,7 +24,7 @@ use Rattle.lines.specs.Named.{countOf, stationsOf, openingOf, issueRead, openin
 use Rattle.lines.proofs.Named.{operation-stations, operation-vector-length}
 use Rattle.heard.specs.Hearing.{bytesOf}
 use Rattle.spoken.specs.Spoken.{frameOf}
-use Rattle.calls.specs.Conditions.{isLineOf}
+use Rattle.agreeing.specs.Conditions.{isLineOf}
 
 -- no bytes are no line
 none-of : (type : Line) (more : ℕ) → isOf type more [] ≡ false

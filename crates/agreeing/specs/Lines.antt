@@ -24,10 +24,10 @@ use Rattle.spoken.specs.declared.Issued.the-variants as issued
 use Rattle.spoken.specs.Spoken.{frameOf, localOf, openedBy}
 use Rattle.answering.specs.Answering.{changing, doneBytes, isType, openedBytes, receivedBytes, secondOpening, settledBytes}
 use Rattle.heard.specs.Hearing.{typeOf}
 use Rattle.calls.specs.Answers.{answerOf}
 use Rattle.calls.specs.Calls as calls
 use Rattle.calls.specs.Calls.{receivedBy, repliedBy, settledBy}
-use Rattle.calls.specs.Station.{Call, receives, issues, settles}
+use Rattle.agreeing.specs.Station.{Call, receives, issues, settles}
 
 -- The space after these lines were answered, the first first.
 unfoldable pub linesAfter : List (List ℕ) → List ℕ → List ℕ

@@ -38,12 +38,12 @@ use Rattle.spoken.specs.declared.Issued.{Issued}
 use Rattle.spoken.specs.declared.Issued.the-variants as issued
 use Rattle.spoken.specs.declared.Settled.{Settled}
 use Rattle.spoken.specs.declared.Settled.the-variants as settled
 use Rattle.calls.specs.Calls as calls
 use Rattle.spoken.specs.Spoken.{frameBytes, frameOf, framedAs, headerRead, issuedAs, issuedOn, localOf, openedAs, openedBy, receivedAs, receivedOn, repliedOn, settledAs, settledOn}
 use Rattle.calls.specs.Calls.{receivedBy, repliedBy, settledBy}
-use Rattle.calls.specs.Conditions.{isLineOf, openConditions, receiveConditions, issueConditions, settleConditions, askConditions, numberOfOpened, numberOfReceived, numberOfIssued, numberOfSettled, askRefusal, openResult, receiveResult, issueResult, settleResult, askResult}
+use Rattle.agreeing.specs.Conditions.{isLineOf, openConditions, receiveConditions, issueConditions, settleConditions, askConditions, numberOfOpened, numberOfReceived, numberOfIssued, numberOfSettled, askRefusal, openResult, receiveResult, issueResult, settleResult, askResult}
 use Rattle.spoken.proofs.Settling.{limit-read, heard-bytes}
-use Rattle.calls.proofs.Shaping.{opening-shaped, operation-shaped, issue-shaped, settling-shaped, question-shaped, frame-shaped}
+use Rattle.agreeing.proofs.Shaping.{opening-shaped, operation-shaped, issue-shaped, settling-shaped, question-shaped, frame-shaped}
 
 -- What a call answers and what it leaves in the spaces that are lent to it, by the conditions of its refusals. `numbers` is its own order of them.
 pub record Exactly {A S : Type 0} (number : A → ℕ) (refuse : ℕ → A) (numbers : List ℕ) (conditions : List Refusal) (before : S) (result call : A × S) : Type 0 where

@@ -35,11 +35,11 @@ use Rattle.spoken.specs.declared.Settled.the-variants as settled
 use Rattle.spoken.specs.Spoken.{frameBytes, frameOf, framedAs, headerRead, issuedAs, issuedOn, localOf, openedAs, openedBy, receivedAs, receivedOn, repliedOn, settledAs, settledOn}
 use Rattle.answering.specs.Answering.{answerOn, changing, issueAnswer, issuedBytes, openedBytes, questionAnswer, receivedBytes, secondOpening, settledBytes}
 use Rattle.heard.specs.Hearing.{typeOf}
 use Rattle.calls.specs.Answers.{answerOf}
 use Rattle.calls.specs.Calls as calls
 use Rattle.calls.specs.Calls.{receivedBy, repliedBy, settledBy}
-use Rattle.calls.specs.Lines.{ByType, isDone, issuedTold, repliedTold}
-use Rattle.calls.proofs.Lines.{done-is-done, frame-room, zeros-frame}
+use Rattle.agreeing.specs.Lines.{ByType, isDone, issuedTold, repliedTold}
+use Rattle.agreeing.proofs.Lines.{done-is-done, frame-room, zeros-frame}
 
 module _ (line words : List ℕ) where
   -- before an accepted opening, and at a table
