@@ -211,7 +211,7 @@ module _ (line words out : List ℕ) (kind : ℕ) (e : kind ≡ typeOf line) whe
     answer-formed long r y p = ap₂ (λ (q : Answered × List ℕ) (l : List ℕ). (q .0, (l, q .1))) p (sym (printing-stays line words out is-printing (omega (arith, long)) k))
 
   module _ (n : kind ≡ 96 → ⊥) where
-    one-line : linesFor line words ≡ answerOf line words .0 ∷ []
+    pub one-line : linesFor line words ≡ answerOf line words .0 ∷ []
     unfolding linesFor
     one-line = cases (holdsTable words && printingRead (bytesOf line))
         (λ b. absurd (n (e ∙ printing-type line (and-right (holdsTable words) (printingRead (bytesOf line)) b))))

@@ -2,10 +2,3 @@ pub mod Tested
 pub mod Falling
 pub mod Answering
 pub mod Counting
-pub mod Shaping
-pub mod ExactlyWhen
-pub mod FrameBack
-pub mod Calling
-pub mod Lines
-pub mod ByType
-pub mod Station

@@ -28,9 +28,9 @@ use Rattle.taking.specs.Taking.{clockTaken, closed, finished, joined, joins, la
 use Rattle.loading.specs.declared.Next.{Next}
 use Rattle.loading.specs.declared.Next.the-variants as next
 use Rattle.loading.specs.Loading.{begun, firstTaken, loadEnded, loadedBy, nextIn, takenAs, underLoad}
-use Rattle.calls.specs.Conditions.{isLineOf, openConditions, openResult}
+use Rattle.agreeing.specs.Conditions.{isLineOf, openConditions, openResult}
 use Rattle.calls.proofs.Answering.{starts-type}
-use Rattle.calls.proofs.ExactlyWhen.{Exactly, exactly, open-told}
+use Rattle.agreeing.proofs.ExactlyWhen.{Exactly, exactly, open-told}
 use Rattle.continuing.specs.LoadConditions.{beginConditions, beginResult, endConditions, endLeft, isNext, loadConditions, loadResult, numberOfLoaded, zeroed}
 
 -- a line of an opening's shape is of its type

@@ -31,10 +31,10 @@ use Rattle.loading.specs.Loading.{loadedBy, underLoad}
 use Rattle.restoring.specs.Restoring.{loads}
 use Rattle.restoring.proofs.RoundTrip as restoring
 use Rattle.calls.specs.Answers.{answerOf}
-use Rattle.calls.specs.Station.{eventsOfAll}
-use Rattle.calls.specs.Lines.{OpenedBy, acceptedBy, callsOf, meantAnswer}
-use Rattle.calls.proofs.Calling.{Holds, after-both, opening-in-range, reply-agrees, reply-meant, rows-agree}
-use Rattle.calls.proofs.Lines.{line-accepted, next-holds, opened-fresh, opened-holds, question-on}
+use Rattle.agreeing.specs.Station.{eventsOfAll}
+use Rattle.agreeing.specs.Lines.{OpenedBy, acceptedBy, callsOf, meantAnswer}
+use Rattle.agreeing.proofs.Calling.{Holds, after-both, opening-in-range, reply-agrees, reply-meant, rows-agree}
+use Rattle.agreeing.proofs.Lines.{line-accepted, next-holds, opened-fresh, opened-holds, question-on}
 -- a form that loads is the form that its table saves, and two tables with the same form are the same table
 pub use Rattle.restoring.proofs.OneForm.{form-that-loads, one-form, same-form}
 -- 1, 13 and 15 of a line of a form, exactly when

@@ -10,7 +10,7 @@ use Rattle.hexes.specs.Hex.{hexLine}
 use Rattle.forms.specs.Forms.{savedForm}
 use Rattle.loading.specs.Loading.{loadedBy, underLoad}
 use Rattle.calls.specs.Answers.{answerOf}
-use Rattle.calls.specs.Lines.{acceptedBy}
+use Rattle.agreeing.specs.Lines.{acceptedBy}
 
 -- A line that is answered, or the form that the table saves now, loaded into another space, which is the table's from then on.
 pub data Act : Type 0 where

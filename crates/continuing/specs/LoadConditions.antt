@@ -19,7 +19,7 @@ use Rattle.taking.specs.Taking.{joined, joins, rowSaid, took}
 use Rattle.loading.specs.declared.Next.{Next}
 use Rattle.loading.specs.declared.Next.the-variants as next
 use Rattle.loading.specs.Loading.{underLoad}
-use Rattle.calls.specs.Conditions.{openConditions, openResult}
+use Rattle.agreeing.specs.Conditions.{openConditions, openResult}
 
 -- The number of an answer, 0 where it is no refusal.
 unfoldable pub numberOfLoaded : Loaded → ℕ

@@ -1,10 +1,11 @@
 -- Lines given to the station program one after the other over one space: the space after them, and the operations that were accepted.
 use mathlib.Core.Path.{_≡_}
+use mathlib.Core.Logic.{_≢_}
 use mathlib.Core.Bool.{Bool, true, false, cond}
 use mathlib.Core.List.{List, [], _∷_, _++_}
 use Prim.Native.Nat.{ℕ}
 use lib.Dec.{eqb}
-use lib.ListN.{take}
+use lib.ListN.{length, take}
 use Rattle.meaning.specs.Operations as meant
 use Rattle.meaning.specs.Table.{Header, greatestCapacity, zeros}
 use Rattle.meaning.specs.Refusals.{issuedBy}
@@ -15,7 +16,7 @@ use Rattle.asks.specs.declared.Reply.{Reply}
 use Rattle.asks.specs.declared.Reply.the-variants as reply
 use Rattle.hexes.specs.Choice.{pick}
 use Rattle.hexes.specs.Hex.{figureZero, hexLine}
-use Rattle.lines.specs.Types.{count, flag, issue, lineOf, opening, operation, question, settling, sum}
+use Rattle.lines.specs.Types.{count, flag, issue, lineOf, opening, operation, printing, question, settling, sum}
 use Rattle.lines.specs.Named.{issueRead, operationRead, questionRead}
 use Rattle.heard.specs.Hearing.{bytesOf}
 use Rattle.telling.specs.Telling.{listBytes, refusalBytes, replyBytes}
@@ -24,10 +25,17 @@ use Rattle.spoken.specs.declared.Issued.the-variants as issued
 use Rattle.spoken.specs.Spoken.{frameOf, localOf, openedBy}
 use Rattle.answering.specs.Answering.{changing, doneBytes, isType, openedBytes, receivedBytes, secondOpening, settledBytes}
 use Rattle.heard.specs.Hearing.{typeOf}
-use Rattle.calls.specs.Answers.{answerOf}
+use Rattle.forms.specs.Forms.{savedForm}
+use Rattle.saving.specs.declared.Saved.{Saved}
+use Rattle.saving.specs.declared.Saved.the-variants as saved
+use Rattle.saving.specs.Saving.{savedBy}
+use Rattle.calls.specs.declared.Answered.{Answered}
+use Rattle.calls.specs.declared.Answered.the-variants as answered
+use Rattle.calls.specs.Answers.{answerOf, answeredBy, linesFor, longestAnswer, printedAt}
 use Rattle.calls.specs.Calls as calls
 use Rattle.calls.specs.Calls.{receivedBy, repliedBy, settledBy}
-use Rattle.calls.specs.Station.{Call, receives, issues, settles}
+use Rattle.agreeing.specs.Station.{Call, receives, issues, settles}
+use Rattle.agreeing.specs.Conditions.{isLineOf}
 
 -- The space after these lines were answered, the first first.
 unfoldable pub linesAfter : List (List ℕ) → List ℕ → List ℕ
@@ -97,7 +105,13 @@ repliedTold (reply.List values, out) = listBytes (take (values .0) out)
 repliedTold (reply.Count number, out) = lineOf count (number .0 ∷ []) []
 repliedTold (reply.Holds there, out) = lineOf flag (cond there 1 0 ∷ []) []
 
--- The answer to a line of each type is what the call of that type answers: on any space, with room for every frame and every list.
+-- "`60` prints the saved lines only": the line that saving gives at a place, or the end; a refusal is one line.
+unfoldable pub savedTold : List ℕ → ℕ → Saved × List ℕ → Answered × (List ℕ × List ℕ)
+savedTold words place (saved.Refused number, out) = let told = printedAt (refusalBytes number ∷ []) place out in (told .0, (words, told .1))
+savedTold words place (saved.Line characters, out) = (answered.Line characters, (words, out))
+savedTold words place (saved.End, out) = (answered.End, (words, out))
+
+-- The answer to a line of each type is what the call of that type answers: on any space, with room for every frame, every list and every line of a form.
 pub record ByType (line words : List ℕ) : Type 0 where
   pub frame : typeOf line ≡ operation .typeByte → answerOf line words ≡ changing receivedBytes (receivedBy line words)
   pub local : typeOf line ≡ issue .typeByte → (hexLine (answerOf line words .0), answerOf line words .1) ≡ issuedTold (calls.issuedBy line words (zeros longestFrame))
@@ -105,3 +119,11 @@ pub record ByType (line words : List ℕ) : Type 0 where
   pub asked : typeOf line ≡ question .typeByte → answerOf line words ≡ (repliedTold (repliedBy line words (zeros greatestCapacity)), words)
   pub opened : typeOf line ≡ opening .typeByte → holdsTable words ≡ false → answerOf line words ≡ changing openedBytes (openedBy line words)
   pub second : typeOf line ≡ opening .typeByte → holdsTable words ≡ true → answerOf line words ≡ (secondOpening line, words)
+  -- that answer is the one output line
+  pub one-line : typeOf line ≢ printing .typeByte → linesFor line words ≡ answerOf line words .0 ∷ []
+  -- each output line for a line of type `60` is what saving gives at its place, until the end, and the table space stays
+  pub form : typeOf line ≡ printing .typeByte → (place : ℕ) (out : List ℕ) → length out ≡ longestAnswer → answeredBy line place words out ≡ savedTold words place (savedBy line words place out)
+  -- so it is the whole form, 14, or 1
+  pub whole-form : isLineOf printing 0 line ≡ true → holdsTable words ≡ true → linesFor line words ≡ savedForm (tableOf words)
+  pub no-form : typeOf line ≡ printing .typeByte → holdsTable words ≡ false → linesFor line words ≡ refusalBytes 14 ∷ []
+  pub misshapen : typeOf line ≡ printing .typeByte → isLineOf printing 0 line ≡ false → holdsTable words ≡ true → linesFor line words ≡ refusalBytes 1 ∷ []

@@ -19,9 +19,12 @@ use Rattle.asks.specs.declared.Reply.the-variants as reply
 use Rattle.asks.specs.Replies.{replied}
 use Rattle.hexes.specs.Decoding.{isLine}
 use Rattle.hexes.specs.Hex.{hexLine}
-use Rattle.lines.specs.Types.{Line, isOf, longest, opening, operation, issue, settling, question}
+use Rattle.lines.specs.Types.{Line, isOf, longest, opening, operation, issue, settling, question, printing}
 use Rattle.lines.specs.Named.{countOf, stationsOf, issueRead, operationRead, questionRead, settlingRead}
 use Rattle.heard.specs.Hearing.{bytesOf}
+use Rattle.forms.specs.Forms.{savedForm}
+use Rattle.saving.specs.declared.Saved.{Saved}
+use Rattle.saving.specs.declared.Saved.the-variants as saved
 use Rattle.spoken.specs.declared.Opened.{Opened}
 use Rattle.spoken.specs.declared.Opened.the-variants as opened
 use Rattle.spoken.specs.declared.Received.{Received}
@@ -95,6 +98,15 @@ askConditions line words out =
     ∷ (11 when listTooLong (byRows table) (length out) asked)
     ∷ []
 
+-- "saving 14, 1, 10": the line, the space, the place of a line of the form, and the line space. Behind the form's last line the space is too short for none.
+unfoldable pub saveConditions : List ℕ → List ℕ → ℕ → List ℕ → List Refusal
+saveConditions line words place out =
+    let form = savedForm (tableOf words) in
+    (14 when not (holdsTable words))
+    ∷ (1 when not (isLineOf printing 0 line))
+    ∷ (10 when (ltb place (length form) && ltb (length out) (length (hexLine (getD form place [])))))
+    ∷ []
+
 -- The number of an answer, 0 where it is no refusal. A question's is `asks`' own.
 unfoldable pub numberOfOpened : Opened → ℕ
 numberOfOpened (opened.Refused number) = number
@@ -111,6 +123,11 @@ numberOfIssued (issued.Frame length) = 0
 unfoldable pub numberOfSettled : Settled → ℕ
 numberOfSettled (settled.Refused number) = number
 numberOfSettled (settled.Steps count) = 0
+
+unfoldable pub numberOfSaved : Saved → ℕ
+numberOfSaved (saved.Refused number) = number
+numberOfSaved (saved.Line length) = 0
+numberOfSaved saved.End = 0
 
 -- "11 also the count": what a question is told by its number.
 unfoldable pub askRefusal : List ℕ → List ℕ → ℕ → Reply
@@ -151,3 +168,10 @@ unfoldable pub askResult : List ℕ → List ℕ → List ℕ → Reply × List 
 askResult line words out =
     let read = questionRead (bytesOf line) in
     replied (answered (answerFrom (byRows (tableOf words)) (askedFrom (read .object) (read .question) (read .value)))) out
+
+-- Saving: the form's line at the place, or the end behind its last.
+unfoldable pub saveResult : List ℕ → ℕ → List ℕ → Saved × List ℕ
+saveResult words place out =
+    let form = savedForm (tableOf words) in
+    let spelt = hexLine (getD form place []) in
+    cond (ltb place (length form)) (saved.Line (length spelt), spelt ++ drop (length spelt) out) (saved.End, out)

@@ -40,14 +40,14 @@ use Rattle.heard.proofs.Hearing.{bytes-back}
 use Rattle.spoken.specs.declared.Issued.{Issued}
 use Rattle.spoken.specs.declared.Issued.the-variants as issued
 use Rattle.spoken.specs.declared.Received.the-variants as received
 use Rattle.calls.specs.Calls as calls
 use Rattle.spoken.specs.Spoken.{frameBytes, frameOf, localOf, receivedAs, receivedOn}
 use Rattle.calls.specs.Calls.{receivedBy}
-use Rattle.calls.specs.Conditions.{issueConditions, issueResult, numberOfIssued}
+use Rattle.agreeing.specs.Conditions.{issueConditions, issueResult, numberOfIssued}
 use Rattle.spoken.proofs.Settling.{heard-bytes}
 use Rattle.spoken.proofs.Receiving.{picked}
-use Rattle.calls.proofs.Shaping.{one-byte, four-bytes}
-use Rattle.calls.proofs.ExactlyWhen.{exactly-when}
+use Rattle.agreeing.proofs.Shaping.{one-byte, four-bytes}
+use Rattle.agreeing.proofs.ExactlyWhen.{exactly-when}
 
 -- the fields of an issue line fit the bytes of a frame
 pub record Narrow (local : Local) : Type 0 where

@@ -1,8 +1,9 @@
 -- The station program's answer to a line of each type is what the call of that type answers.
 use mathlib.Core.Path.{_≡_, refl, sym, ap, _∙_}
 use mathlib.Core.Bool.{Bool, true, false, cond, false≢true}
-use mathlib.Core.List.{List, _∷_}
-use Prim.Native.Nat.{ℕ}
+use mathlib.Core.List.{List, [], _∷_}
+use Prim.Native.Nat.{ℕ, _≤_}
+use native.Mathlib.Omega.{arith}
 use borrow.Author.Tests.{le-leb}
 use lib.Dec.{eqb, leb}
 use lib.ListN.{drop, length, length-replicate}
@@ -24,8 +25,8 @@ use Rattle.hexes.specs.Hex.{digitOf, digitsOf, hexLine}
 use Rattle.hexes.specs.Numbers.{bigEndian}
 use Rattle.shapes.specs.Shapes.{written}
 use Rattle.writing.specs.Writing.{lineBytes, lineWritten}
-use Rattle.lines.specs.Types.{issue, opening, operation, question, settling}
-use Rattle.lines.specs.Named.{issueRead, openingRead, operationRead, questionRead, settlingRead}
+use Rattle.lines.specs.Types.{issue, opening, operation, printing, question, settling}
+use Rattle.lines.specs.Named.{issueRead, openingRead, operationRead, printingRead, questionRead, settlingRead}
 use Rattle.heard.specs.Hearing.{bytesOf}
 use Rattle.telling.specs.Telling.{listBytes, refusalBytes, replyBytes}
 use Rattle.spoken.specs.declared.Issued.the-variants as issued
@@ -35,11 +36,20 @@ use Rattle.spoken.specs.declared.Settled.the-variants as settled
 use Rattle.spoken.specs.Spoken.{frameBytes, frameOf, framedAs, headerRead, issuedAs, issuedOn, localOf, openedAs, openedBy, receivedAs, receivedOn, repliedOn, settledAs, settledOn}
 use Rattle.answering.specs.Answering.{answerOn, changing, issueAnswer, issuedBytes, openedBytes, questionAnswer, receivedBytes, secondOpening, settledBytes}
 use Rattle.heard.specs.Hearing.{typeOf}
-use Rattle.calls.specs.Answers.{answerOf}
+use Rattle.forms.specs.Forms.{savedForm}
+use Rattle.saving.specs.declared.Saved.{Saved}
+use Rattle.saving.specs.declared.Saved.the-variants as saved
+use Rattle.saving.specs.Saving.{savedBy}
+use Rattle.calls.specs.declared.Answered.{Answered}
+use Rattle.calls.specs.declared.Answered.the-variants as answered
+use Rattle.calls.specs.Answers.{answerOf, answeredBy, linesFor, longestAnswer, printedAt}
 use Rattle.calls.specs.Calls as calls
 use Rattle.calls.specs.Calls.{receivedBy, repliedBy, settledBy}
-use Rattle.calls.specs.Lines.{ByType, isDone, issuedTold, repliedTold}
-use Rattle.calls.proofs.Lines.{done-is-done, frame-room, zeros-frame}
+use Rattle.calls.proofs.Answering.{answer-formed, form-end, form-line, form-refused, one-line}
+use Rattle.agreeing.specs.Conditions.{isLineOf}
+use Rattle.agreeing.specs.Lines.{ByType, isDone, issuedTold, repliedTold, savedTold}
+use Rattle.agreeing.proofs.Shaping.{printing-shaped}
+use Rattle.agreeing.proofs.Lines.{done-is-done, frame-room, zeros-frame}
 
 module _ (line words : List ℕ) where
   -- before an accepted opening, and at a table
@@ -138,6 +148,42 @@ issue-told line words held = by (issueRead (bytesOf line) .ok)
     by true = outcome-told words (zeros 147) (refusalOfLocal (tableOf words) local) u (afterArrival (tableOf words) u (tableOf words .last)) fits
     by false = refl
 
+-- a `60` line to a table
+told-whole : (line words : List ℕ) → isLineOf printing 0 line ≡ true → holdsTable words ≡ true → linesFor line words ≡ savedForm (tableOf words)
+unfolding linesFor
+told-whole line words m h = let read : printingRead (bytesOf line) ≡ true = printing-shaped line ∙ m in rw (h, read) refl
+
+-- saving, as it stands in a line space and as it is told
+module _ (line words : List ℕ) (t : typeOf line ≡ printing .typeByte) where
+  module _ (place : ℕ) (out : List ℕ) (long : length out ≡ longestAnswer) where
+    abbrev given : Saved × List ℕ
+    given = savedBy line words place out
+
+    room : 149 ≤ length out
+    room = omega (arith, long)
+
+    at-place : (a : Answered) (y : List ℕ) → (a, y) ≡ printedAt (linesFor line words) place out → answeredBy line place words out ≡ (a, (words, y))
+    at-place a y e = sym (answer-formed line words out (typeOf line) refl t place long a y e)
+
+    told-saved : (q : Saved) → given .0 ≡ q → answeredBy line place words out ≡ savedTold words place (q, given .1)
+    unfolding savedTold
+    told-saved (saved.Refused number) h =
+        let told = printedAt (refusalBytes number ∷ []) place (given .1) in
+        at-place (told .0) (told .1) (form-refused line words out t room place (given .0) (given .1) refl number h (told .0) (told .1) refl)
+    told-saved (saved.Line n) h = at-place (answered.Line n) (given .1) (form-line line words out t room place (given .0) (given .1) refl n h)
+    told-saved saved.End h = at-place answered.End (given .1) (form-end line words out t room place (given .0) (given .1) refl h)
+
+  told-form : (place : ℕ) (out : List ℕ) → length out ≡ longestAnswer → answeredBy line place words out ≡ savedTold words place (savedBy line words place out)
+  told-form place out long = told-saved place out long (savedBy line words place out .0) refl
+
+  told-no-form : holdsTable words ≡ false → linesFor line words ≡ refusalBytes 14 ∷ []
+  unfolding linesFor
+  told-no-form f = rw (by-table line words 96 t, f) refl
+
+  told-misshapen : isLineOf printing 0 line ≡ false → holdsTable words ≡ true → linesFor line words ≡ refusalBytes 1 ∷ []
+  unfolding linesFor answerOn
+  told-misshapen m h = let unread : printingRead (bytesOf line) ≡ false = printing-shaped line ∙ m in rw (by-table line words 96 t, h, unread) refl
+
 module _ (line words : List ℕ) where
   told-question : typeOf line ≡ question .typeByte → answerOf line words ≡ (repliedTold (repliedBy line words (zeros 512)), words)
   unfolding answerOn repliedBy repliedTold
@@ -165,6 +211,11 @@ module _ (line words : List ℕ) where
     asked = told-question;
     opened = told-opening line words;
     second = told-second line words;
+    one-line = λ n. one-line line words [] (typeOf line) refl n;
+    form = told-form line words;
+    whole-form = told-whole line words;
+    no-form = told-no-form line words;
+    misshapen = told-misshapen line words;
   }
 
 -- "a refusal changes no byte": what each answer leaves, where it does not begin with `00`

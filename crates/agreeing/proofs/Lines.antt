@@ -50,13 +50,13 @@ use Rattle.spoken.specs.Spoken.{frameBytes, frameOf, headerRead, issuedOn, loca
 use Rattle.answering.specs.Answering.{answerOn, doneBytes, issueAnswer, issuedBytes, openedBytes, questionAnswer, receivedBytes, secondOpening, settledBytes, toldAfter}
 use Rattle.answering.proofs.Framing.{issue-framed, issue-refused}
 use Rattle.heard.specs.Hearing.{typeOf}
 use Rattle.calls.specs.Answers.{answerOf}
 use Rattle.calls.specs.Calls as calls
 use Rattle.calls.specs.Calls.{receivedBy, settledBy}
-use Rattle.calls.specs.Station.{Call, receives, issues, settles, wordsAfter, wordsAfterAll, frameFits, eventsOf, eventsOfAll}
-use Rattle.calls.specs.Lines.{OpenedBy, acceptedBy, acceptedByAll, callsOf, callsOfAll, isDone, linesAfter, meantAnswer, offeredBy}
+use Rattle.agreeing.specs.Station.{Call, receives, issues, settles, wordsAfter, wordsAfterAll, frameFits, eventsOf, eventsOfAll}
+use Rattle.agreeing.specs.Lines.{OpenedBy, acceptedBy, acceptedByAll, callsOf, callsOfAll, isDone, linesAfter, meantAnswer, offeredBy}
 use Rattle.spoken.proofs.Receiving.{picked}
-use Rattle.calls.proofs.Calling.{Holds, after-both, calls-hold, holds-reached, opening-in-range, reply-agrees, reply-meant, rows-agree}
+use Rattle.agreeing.proofs.Calling.{Holds, after-both, calls-hold, holds-reached, opening-in-range, reply-agrees, reply-meant, rows-agree}
 
 -- a refusal is none of `00`
 refusal-not-done : (number : ℕ) → isDone (refusalBytes number) ≡ false

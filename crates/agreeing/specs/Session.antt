@@ -1,11 +1,12 @@
--- The definitions computed: 01's session up to its `60`, and the lines that it has none of.
+-- The definitions computed: 01's session, and the lines that it has none of.
 use mathlib.Core.Path.{_≡_, refl}
 use mathlib.Core.List.{List, [], _∷_, _++_, map}
-use Prim.Native.Nat.{ℕ}
+use Prim.Native.Nat.{ℕ, zero, suc}
 use Prim.Native.Char.{code}
 use Prim.Native.String.{String, [] as end, _∷_ as _then_}
-use Rattle.meaning.specs.Table.{zeros}
+use Rattle.meaning.specs.Table.{kindIn, zeros}
 use Rattle.meaning.specs.Computing.{allWords}
+use Rattle.meaning.specs.Operations.{isCounter}
 use Rattle.meaning.specs.Papers.{sessionSaved}
 use Rattle.layout.specs.Words.{complement, ofComplement}
 use Rattle.layout.specs.Layout.{holdsTable, isSpelt, rewritten, spaceFor, tableOf, wordsOf}
@@ -18,16 +19,18 @@ use Rattle.writing.specs.Writing.{lineBytes, writtenEach}
 use Rattle.lines.specs.Types.{isOf, lineRead}
 use Rattle.lines.specs.Named.{issueRead, openingRead, operationRead, questionRead, settlingRead}
 use Rattle.heard.specs.Hearing.{bytesOf}
+use Rattle.formlines.specs.FormLines.{closingLine, clockLine, lastLine, openingLine, rowLine, totalLine}
+use Rattle.forms.specs.Forms.{lastLines, rowLines, savedForm, totalLines}
 use Rattle.telling.specs.Telling.{listBytes, refusalBytes, replyBytes}
 use Rattle.spoken.specs.Spoken.{frameBytes, frameOf, headerRead, localOf, openedAs, openedBy, receivedAs, receivedOn, settledAs, settledOn}
 use Rattle.answering.specs.Answering.{answerOn, doneBytes, issueAnswer, issuedBytes, openedBytes, questionAnswer, receivedBytes, secondOpening, settledBytes}
 use Rattle.heard.specs.Hearing.{typeOf}
-use lib.ListN.{take}
+use lib.ListN.{length, take}
 use Rattle.calls.specs.declared.Answered.{Answered}
 use Rattle.calls.specs.declared.Answered.the-variants as answered
 use Rattle.lines.specs.Named.{printingRead}
 use Rattle.calls.specs.Answers.{answerOf, answeredBy, linesFor, longestAnswer, printedAt, spaceAfter}
-use Rattle.calls.specs.Lines.{linesAfter}
+use Rattle.agreeing.specs.Lines.{linesAfter}
 
 -- The characters of a text, and its line.
 unfoldable pub characters : String → List ℕ
@@ -37,38 +40,54 @@ characters (first then rest) = code first ∷ characters rest
 unfoldable pub lineSaying : String → List ℕ
 lineSaying text = characters text ++ (lf ∷ [])
 
--- What is printed for these lines, given one after the other, the first first.
-unfoldable pub printedFor : List (List ℕ) → List ℕ → List (List ℕ)
+-- What is printed for these lines, given one after the other, the first first: for each its output lines.
+unfoldable pub printedFor : List (List ℕ) → List ℕ → List (List (List ℕ))
 printedFor [] words = []
-printedFor (line ∷ rest) words = hexLine (answerOf line words .0) ∷ printedFor rest (answerOf line words .1)
+printedFor (line ∷ rest) words = map hexLine (linesFor line words) ∷ printedFor rest (answerOf line words .1)
 
--- The same through `answer`: its first output line for each, from a space for answers that holds zeros.
-unfoldable pub charactersOf : Answered → ℕ
-charactersOf (answered.Line n) = n
-charactersOf answered.End = 0
+-- The same through `answer`, from a space for answers that holds zeros: its output lines one after the other until the end, and the table space then.
+unfoldable pub saidAfter : Answered × (List ℕ × List ℕ) → List (List ℕ) × List ℕ → List (List ℕ) × List ℕ
+saidAfter (answered.Line n, (words, out)) behind = (take n out ∷ behind .0, behind .1)
+saidAfter (answered.End, (words, out)) behind = ([], words)
 
-unfoldable pub answersFor : List (List ℕ) → List ℕ → List (List ℕ)
+-- From a place on, asked so many times at most.
+unfoldable pub saidFrom : ℕ → List ℕ → ℕ → List ℕ → List (List ℕ) × List ℕ
+saidFrom zero line place words = ([], words)
+saidFrom (suc times) line place words =
+    let told = answeredBy line place words (zeros longestAnswer) in
+    saidAfter told (saidFrom times line (suc place) (told .1 .0))
+
+-- Asked once more than there are lines, it tells the end.
+unfoldable pub answersFor : List (List ℕ) → List ℕ → List (List (List ℕ))
 answersFor [] words = []
 answersFor (line ∷ rest) words =
-    let told = answeredBy line 0 words (zeros longestAnswer) in
-    take (charactersOf (told .0)) (told .1 .1) ∷ answersFor rest (told .1 .0)
+    let said = saidFrom (suc (length (linesFor line words))) line 0 words in
+    said .0 ∷ answersFor rest (said .1)
 
 -- A space of just the words of the session's table.
 abbrev pub space : List ℕ
 space = zeros (spaceFor 2 4)
 
--- A line, and the line that is printed for it.
+-- A line, and the lines that are printed for it: one, or those of a form.
 pub record Exchange : Type 0 where
   pub given : List ℕ
-  pub printed : List ℕ
+  pub printed : List (List ℕ)
+
+infix 4 _prints_
+abbrev pub _prints_ : List ℕ → List String → Exchange
+line prints form = record { given = line; printed = map lineSaying form }
 
 infix 4 _gets_
 abbrev pub _gets_ : List ℕ → String → Exchange
-line gets answer = record { given = line; printed = lineSaying answer }
+line gets answer = line prints (answer ∷ [])
 
 -- Given one after the other to that space, each line gets its answer.
 abbrev pub Right : List Exchange → Type 0
 Right exchanges = printedFor (map (λ e. e .given) exchanges) space ≡ map (λ e. e .printed) exchanges
+
+-- The lines of the session's table.
+abbrev pub sessionForm : List String
+sessionForm = "10020000040108" ∷ "500000000100000002" ∷ "51010000000000000002" ∷ "5300010000000000070000000100000000" ∷ "5f0001" ∷ []
 
 -- "The whole of one session, input then output".
 abbrev pub wholeSession : List Exchange
@@ -81,6 +100,7 @@ wholeSession =
     ∷ (lineSaying "40000300000000" gets "00000100000007")
     ∷ (lineSaying "30000a" gets "000000")
     ∷ (lineSaying "2002010002000000070000000000000002" gets "ff05")
+    ∷ (lineSaying "60" prints sessionForm)
     ∷ []
 
 -- Before an accepted opening: "A line before an accepted opening gets `ff0e`, unless it is itself of type `10`". The third has half a byte, the fourth
@@ -96,6 +116,7 @@ beforeOpening =
     ∷ (lineSaying "1002000004010A" gets "ff01")
     ∷ (characters "10020000040108" gets "ff01")
     ∷ (characters "4" gets "ff0e")
+    ∷ (lineSaying "60" gets "ff0e")
     ∷ []
 
 -- At a table: "a second opening gets `ff0d`", of its right shape; "Lines of type `50` to `5f` are of unknown type here (1)"; and what is no line gets 1.
@@ -107,13 +128,14 @@ atTable =
     ∷ (lineSaying "100200000401" gets "ff01")
     ∷ (lineSaying "500000000000000000" gets "ff01")
     ∷ (lineSaying "5f0000" gets "ff01")
+    ∷ (lineSaying "6000" gets "ff01")
     ∷ (lineSaying "" gets "ff01")
     ∷ (lineSaying "2100010000000A" gets "ff01")
     ∷ (characters "40000400000000" gets "ff01")
     ∷ (lineSaying "40000400000000" gets "000000")
     ∷ []
 
--- The session, and the table that its `60` prints: `forms`' `session-form` has the lines of that.
+-- The session by the output lines and through `answer`, and the table that it leaves.
 pub record Session : Type 0 where
   pub whole-session : Right wholeSession
   pub through-answer : answersFor (map (λ (e : Exchange). e .given) wholeSession) space ≡ map (λ (e : Exchange). e .printed) wholeSession
@@ -126,5 +148,6 @@ unfolding allWords complement ofComplement holdsTable isSpelt rewritten tableOf 
     pairOf pairs lengthOf read written entries fieldsRead hasShape padded startsWith lineBytes writtenEach isOf lineRead issueRead openingRead operationRead
     questionRead settlingRead bytesOf listBytes refusalBytes replyBytes frameBytes frameOf headerRead localOf openedAs openedBy receivedAs receivedOn settledAs
     settledOn answerOn doneBytes issueAnswer issuedBytes openedBytes questionAnswer receivedBytes secondOpening settledBytes answerOf typeOf characters
-    lineSaying printedFor linesAfter answeredBy linesFor printedAt spaceAfter printingRead charactersOf answersFor
+    lineSaying printedFor linesAfter answeredBy linesFor printedAt spaceAfter printingRead isCounter kindIn closingLine clockLine lastLine openingLine rowLine totalLine
+    lastLines rowLines savedForm totalLines saidAfter saidFrom answersFor
 session = record { whole-session = refl; through-answer = refl; ends-with = refl; before-opening = refl; at-table = refl }

@@ -6,8 +6,8 @@ use mathlib.Core.List.{List, [], _∷_, map}
 use Prim.Native.Nat.{ℕ, _≤_, _<_}
 use native.Mathlib.Omega.{arith}
 use lib.Dec.{eqb, leb, ltb}
-use lib.ListN.{length, drop, set}
-use borrow.Author.Tests.{eqb-true, eq-eqb, ne-eqb, le-leb, le-ltb, leb-true, leb-false, lt-ltb}
+use lib.ListN.{length, drop, getD, set}
+use borrow.Author.Tests.{eqb-true, eq-eqb, ne-eqb, le-leb, le-ltb, leb-true, leb-false, lt-ltb, ltb-true, ltb-false}
 use Rattle.meaning.specs.Operations as meant
 use Rattle.meaning.specs.Table as tables
 use Rattle.meaning.specs.Table.{Table, inRange}
@@ -28,8 +28,13 @@ use Rattle.hexes.specs.Choice.{pick}
 use Rattle.hexes.specs.Hex.{hexLine}
 use Rattle.writing.specs.Writing.{lineWritten}
 use Rattle.lines.specs.Types.{operation}
-use Rattle.lines.specs.Named.{stationsOf, issueRead, openingRead, operationRead, questionRead, settlingRead}
+use Rattle.lines.specs.Named.{stationsOf, issueRead, openingRead, operationRead, printingRead, questionRead, settlingRead}
 use Rattle.heard.specs.Hearing.{bytesOf}
+use Rattle.forms.specs.Forms.{lineAt, savedForm}
+use Rattle.forms.proofs.Lines.{line-none, line-there, line-too-short}
+use Rattle.saving.specs.declared.Saved.{Saved}
+use Rattle.saving.specs.declared.Saved.the-variants as saved
+use Rattle.saving.specs.Saving.{savedAs, savedBy, savedOn}
 use Rattle.spoken.specs.declared.Opened.{Opened}
 use Rattle.spoken.specs.declared.Opened.the-variants as opened
 use Rattle.spoken.specs.declared.Received.{Received}
@@ -38,12 +43,12 @@ use Rattle.spoken.specs.declared.Issued.{Issued}
 use Rattle.spoken.specs.declared.Issued.the-variants as issued
 use Rattle.spoken.specs.declared.Settled.{Settled}
 use Rattle.spoken.specs.declared.Settled.the-variants as settled
 use Rattle.calls.specs.Calls as calls
 use Rattle.spoken.specs.Spoken.{frameBytes, frameOf, framedAs, headerRead, issuedAs, issuedOn, localOf, openedAs, openedBy, receivedAs, receivedOn, repliedOn, settledAs, settledOn}
 use Rattle.calls.specs.Calls.{receivedBy, repliedBy, settledBy}
-use Rattle.calls.specs.Conditions.{isLineOf, openConditions, receiveConditions, issueConditions, settleConditions, askConditions, numberOfOpened, numberOfReceived, numberOfIssued, numberOfSettled, askRefusal, openResult, receiveResult, issueResult, settleResult, askResult}
+use Rattle.agreeing.specs.Conditions.{isLineOf, openConditions, receiveConditions, issueConditions, settleConditions, askConditions, saveConditions, numberOfOpened, numberOfReceived, numberOfIssued, numberOfSettled, numberOfSaved, askRefusal, openResult, receiveResult, issueResult, settleResult, askResult, saveResult}
 use Rattle.spoken.proofs.Settling.{limit-read, heard-bytes}
-use Rattle.calls.proofs.Shaping.{opening-shaped, operation-shaped, issue-shaped, settling-shaped, question-shaped, frame-shaped}
+use Rattle.agreeing.proofs.Shaping.{opening-shaped, operation-shaped, issue-shaped, settling-shaped, question-shaped, printing-shaped, frame-shaped}
 
 -- What a call answers and what it leaves in the spaces that are lent to it, by the conditions of its refusals. `numbers` is its own order of them.
 pub record Exactly {A S : Type 0} (number : A → ℕ) (refuse : ℕ → A) (numbers : List ℕ) (conditions : List Refusal) (before : S) (result call : A × S) : Type 0 where
@@ -268,6 +273,43 @@ module _ (line words out : List ℕ) where
   unfolding askRefusal numberOf
   reply-number n = cases (eqb n 11) (λ q. rw q (sym (eqb-true n 11 q))) (λ q. rw q refl)
 
+-- saving
+module _ (line words : List ℕ) (place : ℕ) (out : List ℕ) where
+  abbrev form : List (List ℕ)
+  form = savedForm (tableOf words)
+
+  abbrev asked-for : List ℕ
+  asked-for = hexLine (getD form place [])
+
+  abbrev saves : ℕ → Saved × List ℕ
+  saves r = cond (eqb r 0) (saveResult words place out) (saved.Refused r, out)
+
+  abbrev short : ℕ
+  short = firstOf (drop 2 (saveConditions line words place out))
+
+  place-told : savedAs out (lineAt form place out) ≡ saves short
+  unfolding savedAs saveConditions saveResult
+  place-told = cases (ltb place (length form)) there (λ q. rw (q, line-none form place out (ltb-false place (length form) q)) refl)
+    where
+      there : ltb place (length form) ≡ true → savedAs out (lineAt form place out) ≡ saves short
+      there q = let h = ltb-true place (length form) q in cases (ltb (length out) (length asked-for))
+          (λ p. rw (q, p, line-too-short form place out h (ltb-true (length out) (length asked-for) p)) refl)
+          (λ p. rw (q, p, line-there form place out h (ltb-false (length out) (length asked-for) p)) refl)
+
+  save-told : savedBy line words place out ≡ saves (firstOf (saveConditions line words place out))
+  unfolding savedBy savedOn saveConditions
+  save-told = on-table saves (holdsTable words) _ _ (λ h.
+      by (printingRead (bytesOf line)) _ place-told
+      ∙ ap (λ (b : Bool). saves (cond (not b) 1 short)) (printing-shaped line))
+    where
+      by : (b : Bool) (x : Saved × List ℕ) → x ≡ saves short → pick b x (saved.Refused 1, out) ≡ saves (cond (not b) 1 short)
+      by true x f = f
+      by false x f = refl
+
+  save-number : numberOfSaved (saveResult words place out .0) ≡ 0
+  unfolding saveResult numberOfSaved
+  save-number = cases (ltb place (length form)) (λ q. rw q refl) (λ q. rw q refl)
+
 -- Each call: "Given exactly when", in "the order they are tried".
 pub record EachCall : Type 0 where
   pub opening : (line words : List ℕ) → Exactly numberOfOpened opened.Refused (1 ∷ 13 ∷ []) (openConditions line words) words (openResult line words) (openedBy line words)
@@ -275,14 +317,16 @@ pub record EachCall : Type 0 where
   pub local : (line words out : List ℕ) → Exactly numberOfIssued issued.Refused (14 ∷ 1 ∷ 3 ∷ 4 ∷ 9 ∷ 8 ∷ 10 ∷ []) (issueConditions line words out) (words, out) (issueResult line words out) (calls.issuedBy line words out)
   pub settling : (line words : List ℕ) → Exactly numberOfSettled settled.Refused (14 ∷ 1 ∷ []) (settleConditions line words) words (settleResult line words) (settledBy line words)
   pub question : (line words out : List ℕ) → Exactly numberOf (askRefusal line words) (14 ∷ 1 ∷ 3 ∷ 12 ∷ 11 ∷ []) (askConditions line words out) out (askResult line words out) (repliedBy line words out)
+  pub saving : (line words : List ℕ) (place : ℕ) (out : List ℕ) → Exactly numberOfSaved saved.Refused (14 ∷ 1 ∷ 10 ∷ []) (saveConditions line words place out) out (saveResult words place out) (savedBy line words place out)
 
 -- "Bad input gets exactly the refusal number that document 01 gives, in 01's order and only then, and a refusal changes no byte".
 pub exactly-when : EachCall
-unfolding numberOfOpened numberOfReceived numberOfIssued numberOfSettled openConditions receiveConditions issueConditions settleConditions askConditions openResult receiveResult issueResult settleResult
+unfolding numberOfOpened numberOfReceived numberOfIssued numberOfSettled numberOfSaved openConditions receiveConditions issueConditions settleConditions askConditions saveConditions openResult receiveResult issueResult settleResult
 exactly-when = record {
   opening = λ line words. exactly numberOfOpened opened.Refused (openConditions line words) words (openResult line words) (openedBy line words) (λ n. refl) refl (open-told line words) refl;
   frame = λ line words. exactly numberOfReceived received.Refused (receiveConditions line words) words (receiveResult line words) (receivedBy line words) (λ n. refl) refl (receive-told line words) refl;
   local = λ line words out. exactly numberOfIssued issued.Refused (issueConditions line words out) (words, out) (issueResult line words out) (calls.issuedBy line words out) (λ n. refl) refl (issue-told line words out) refl;
   settling = λ line words. exactly numberOfSettled settled.Refused (settleConditions line words) words (settleResult line words) (settledBy line words) (λ n. refl) refl (settle-told line words) refl;
   question = λ line words out. exactly numberOf (askRefusal line words) (askConditions line words out) out (askResult line words out) (repliedBy line words out) (reply-number line words out) (ask-number line words out) (ask-told line words out) refl;
+  saving = λ line words place out. exactly numberOfSaved saved.Refused (saveConditions line words place out) out (saveResult words place out) (savedBy line words place out) (λ n. refl) (save-number line words place out) (save-told line words place out) refl;
 }

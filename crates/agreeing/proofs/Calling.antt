@@ -39,10 +39,10 @@ use Rattle.spoken.specs.declared.Opened.the-variants as called
 use Rattle.spoken.specs.declared.Received.the-variants as received
 use Rattle.spoken.specs.declared.Issued.the-variants as issued
 use Rattle.spoken.specs.declared.Settled.the-variants as settled
 use Rattle.calls.specs.Calls as calls
 use Rattle.spoken.specs.Spoken.{frameBytes, frameOf, framedAs, headerRead, issuedAs, issuedOn, localOf, openedAs, openedBy, repliedOn, receivedAs, receivedOn, settledAs, settledOn}
 use Rattle.calls.specs.Calls.{repliedBy, receivedBy, settledBy}
-use Rattle.calls.specs.Station.{Call, receives, issues, settles, wordsAfter, wordsAfterAll, frameFits, eventsOf, eventsOfAll}
+use Rattle.agreeing.specs.Station.{Call, receives, issues, settles, wordsAfter, wordsAfterAll, frameFits, eventsOf, eventsOfAll}
 use Rattle.spoken.proofs.Settling.{limit-read, heard-bytes}
 use Rattle.spoken.proofs.Opening.{open-ranges}
 use Rattle.spoken.proofs.Receiving.{picked}

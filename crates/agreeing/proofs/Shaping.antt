@@ -19,12 +19,12 @@ use Rattle.hexes.proofs.Bytes.{all-bytes-drop}
 use Rattle.shapes.specs.Reading.{entries, fieldsRead, hasShape, mostStations, padded, sizeOf, startsWith, unread}
 use Rattle.shapes.specs.Shapes.{lengthOf, read}
 use Rattle.shapes.specs.declared.Fields.{Fields}
-use Rattle.lines.specs.Types.{Line, headOf, isOf, lineRead, opening, operation, issue, settling, question}
-use Rattle.lines.specs.Named.{countOf, stationsOf, openingOf, issueRead, openingRead, operationRead, questionRead, settlingRead}
+use Rattle.lines.specs.Types.{Line, headOf, isOf, lineRead, opening, operation, issue, settling, question, printing}
+use Rattle.lines.specs.Named.{countOf, stationsOf, openingOf, issueRead, openingRead, operationRead, printingRead, questionRead, settlingRead}
 use Rattle.lines.proofs.Named.{operation-stations, operation-vector-length}
 use Rattle.heard.specs.Hearing.{bytesOf}
 use Rattle.spoken.specs.Spoken.{frameOf}
-use Rattle.calls.specs.Conditions.{isLineOf}
+use Rattle.agreeing.specs.Conditions.{isLineOf}
 
 -- no bytes are no line
 none-of : (type : Line) (more : ℕ) → isOf type more [] ≡ false
@@ -75,6 +75,10 @@ module _ (line : List ℕ) where
   pub question-shaped : questionRead bytes .ok ≡ isLineOf question 0 line
   unfolding questionRead
   question-shaped = fields-ok question refl 0 bytes ∙ sym (line-of question 0 line)
+
+  pub printing-shaped : printingRead bytes ≡ isLineOf printing 0 line
+  unfolding printingRead
+  printing-shaped = sym (line-of printing 0 line)
 
   pub operation-shaped : operationRead bytes .ok ≡ (leb (stationsOf bytes) 16 && isLineOf operation (stationsOf bytes) line)
   unfolding operationRead

@@ -1,0 +1,4 @@
+pub mod Station
+pub mod Lines
+pub mod Conditions
+pub mod Session
