@@ -19,8 +19,7 @@ use Rattle.spoken.specs.declared.Opened.the-variants as opened
 use Rattle.spoken.specs.Spoken.{openedBy}
 use Rattle.taking.specs.declared.Loaded.{Loaded}
 use Rattle.taking.specs.declared.Loaded.the-variants as loaded
-use Rattle.taking.specs.LoadHead.{progressIn}
-use Rattle.taking.specs.Taking.{clockTaken, lastTaken, rowOrClosing, spoilt, totalTaken}
+use Rattle.taking.specs.Taking.{clockTaken, lastTaken, progressIn, rowOrClosing, spoilt, totalTaken}
 use Rattle.loading.specs.declared.Next.{Next}
 use Rattle.loading.specs.declared.Next.the-variants as next
 

@@ -25,7 +25,8 @@ use Rattle.rowrules.specs.RowTests.{contentKept, follows, numberKept, rowKept, 
 use Rattle.clockrules.specs.ClockTests.{lastKept, totalKept}
 use Rattle.layout.specs.Layout.{holdsTable, isSpelt, rewritten, tableOf, wordsOf}
 use Rattle.layout.specs.Words.{complement, ofComplement}
-use Rattle.taking.specs.Taking.{clockTaken, closed, finished, joined, joins, lastRow, lastTaken, rowOrClosing, rowSaid, rowTaken, spoilt, took, totalTaken}
+use Rattle.joining.specs.Joining.{joined, joins, lastRow, rowSaid}
+use Rattle.taking.specs.Taking.{clockTaken, closed, finished, lastTaken, rowOrClosing, rowTaken, spoilt, took, totalTaken}
 use Rattle.loading.specs.Loading.{begun, behindLasts, firstTaken, headLoads, loadWaits, loadEnded, loadedBy, nextAfter, nextIn, takenAs, underLoad, waits}
 use Rattle.taking.specs.declared.Loaded.{Loaded}
 use Rattle.taking.specs.declared.Loaded.the-variants as loaded

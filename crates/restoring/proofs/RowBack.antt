@@ -33,8 +33,9 @@ use Rattle.formlines.specs.FormLines.{closingLine, rowLine}
 use Rattle.taking.specs.declared.Loaded.{Loaded}
 use Rattle.taking.specs.declared.Loaded.the-variants as loaded
 use Rattle.loading.specs.declared.Next.the-variants as next
-use Rattle.taking.specs.Taking as taking
-use Rattle.taking.specs.Taking.{closed, finished, joins, lastRow, rowOrClosing, rowPlace, rowSaid, rowTaken, spoilt}
+use Rattle.joining.specs.Joining as joining
+use Rattle.joining.specs.Joining.{joins, lastRow, rowPlace, rowSaid}
+use Rattle.taking.specs.Taking.{closed, finished, rowOrClosing, rowTaken, spoilt}
 use Rattle.loading.specs.Loading.{loadedBy, nextAfter, takenAs}
 use Rattle.restoring.proofs.Setting.{set-set}
 use Rattle.restoring.proofs.Under.{Fresh, under, count-is, kinds-are, clock-is}
@@ -190,7 +191,7 @@ module _ (t : Table) (F : Fresh t) (rest : List ℕ) (p : ℕ) (line : List ℕ)
       (spoilt space)
 
   row-answered : rowRead size bytes .ok ≡ true → loadedBy line space ≡ rowAnswer (rowRead size bytes)
-  unfolding takenAs rowOrClosing rowTaken taking.joined wordsOf
+  unfolding takenAs rowOrClosing rowTaken joining.joined wordsOf
   row-answered ok = by-rows t F rest p line c ∙ ap (λ (b : Bool). pick b (rowAnswer (rowRead size bytes)) (closed bytes space)) ok
 
   pub row-back : rowRead size bytes .ok ≡ true → (refused (loadedBy line space .0) ≡ true) ⊎ Took line space (rowLine size) (λ (r : Row). withRows t (t .rows ++ (r ∷ []))) p rest
