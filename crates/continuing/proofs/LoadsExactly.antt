@@ -24,7 +24,8 @@ use Rattle.spoken.specs.declared.Opened.the-variants as opened
 use Rattle.spoken.specs.Spoken.{openedBy}
 use Rattle.taking.specs.declared.Loaded.{Loaded}
 use Rattle.taking.specs.declared.Loaded.the-variants as loaded
-use Rattle.taking.specs.Taking.{clockTaken, closed, finished, joined, joins, lastTaken, rowOrClosing, rowSaid, rowTaken, spoilt, took, totalTaken}
+use Rattle.joining.specs.Joining.{joined, joins, rowSaid}
+use Rattle.taking.specs.Taking.{clockTaken, closed, finished, lastTaken, rowOrClosing, rowTaken, spoilt, took, totalTaken}
 use Rattle.loading.specs.declared.Next.{Next}
 use Rattle.loading.specs.declared.Next.the-variants as next
 use Rattle.loading.specs.Loading.{begun, firstTaken, loadEnded, loadedBy, nextIn, takenAs, underLoad}
@@ -90,7 +91,7 @@ module _ (line words : List ℕ) where
   load-told next.Rows =
       let f = rowRead (sizeIn words) (bytesOf line) in
       let g = closingRead (bytesOf line) in
-      rows-tested (f .ok) (leb (f .settled) 1 && joins words (rowSaid (sizeIn words) f)) (g .ok) (eqb (g .rows) (countIn words)) (holdsTable (set words 6 0)) (joined words (rowSaid (sizeIn words) f)) (loaded.Table, set words 6 0)
+      rows-tested (f .ok) (leb (f .settled) 1 && joins words (rowSaid (sizeIn words) f)) (g .ok) (eqb (g .rows) (countIn words)) (holdsTable (set words 6 0)) (loaded.Taken, joined words (rowSaid (sizeIn words) f)) (loaded.Table, set words 6 0)
       ∙ tested (isNext next.Rows (bytesOf line) words) (loadResult next.Rows (bytesOf line) words)
   load-told next.Nothing = tested false (loadResult next.Nothing (bytesOf line) words)
 
@@ -101,7 +102,7 @@ module _ (line words : List ℕ) where
   result-none (next.Total object) = refl
   result-none next.Rows = by (rowRead (sizeIn words) (bytesOf line) .ok)
     where
-      by : (b : Bool) → numberOfLoaded (pick {A = Loaded × List ℕ} b (joined words (rowSaid (sizeIn words) (rowRead (sizeIn words) (bytesOf line)))) (loaded.Table, set words 6 0) .0) ≡ 0
+      by : (b : Bool) → numberOfLoaded (pick {A = Loaded × List ℕ} b (loaded.Taken, joined words (rowSaid (sizeIn words) (rowRead (sizeIn words) (bytesOf line)))) (loaded.Table, set words 6 0) .0) ≡ 0
       by true = refl
       by false = refl
   result-none next.Nothing = refl

@@ -27,7 +27,7 @@ use Rattle.answering.specs.Answering.{questionAnswer}
 use Rattle.spoken.specs.Spoken.{headerRead}
 use Rattle.taking.specs.declared.Loaded.{Loaded}
 use Rattle.taking.specs.declared.Loaded.the-variants as loaded
-use Rattle.loading.specs.Loading.{loadedBy, underLoad}
+use Rattle.loading.specs.Loading.{loadedAll, loadedBy, underLoad}
 use Rattle.restoring.specs.Restoring.{loads}
 use Rattle.restoring.proofs.RoundTrip as restoring
 use Rattle.calls.specs.Answers.{answerOf}
@@ -36,13 +36,13 @@ use Rattle.agreeing.specs.Lines.{OpenedBy, acceptedBy, callsOf, meantAnswer}
 use Rattle.agreeing.proofs.Calling.{Holds, after-both, opening-in-range, reply-agrees, reply-meant, rows-agree}
 use Rattle.agreeing.proofs.Lines.{line-accepted, next-holds, opened-fresh, opened-holds, question-on}
 -- a form that loads is the form that its table saves, and two tables with the same form are the same table
-pub use Rattle.restoring.proofs.OneForm.{form-that-loads, one-form, same-form}
+pub use Rattle.restoring.proofs.OneForm.{form-that-loads, one-form, same-table-in-every-space}
 -- 1, 13 and 15 of a line of a form, exactly when
 pub use Rattle.continuing.proofs.LoadsExactly.{exactly-when}
-use Rattle.continuing.specs.Continuing.{Act, said, restored, Fitting, acceptedByActs, actAfter, actsAfter, loadedAll}
+use Rattle.continuing.specs.Continuing.{Act, said, restored, Fitting, acceptedByActs, actAfter, actsAfter}
 
 -- what a form leaves where all its lines are taken
-all-loaded : (lines : List (List ℕ)) (words after : List ℕ) → loads lines words after → loadedAll lines words ≡ after
+all-loaded : (lines : List (List ℕ)) (words after : List ℕ) → loads lines words after → loadedAll lines words .1 ≡ after
 unfolding loadedAll
 all-loaded [] words after l = absurd l
 all-loaded (line ∷ []) words after l = ap (λ (p : Loaded × List ℕ). p .1) l
@@ -59,7 +59,7 @@ restored-holds words space s H n room =
     let t = tableOf words in
     let is : isTable t ≡ true = checked words (H .held) .by-rules in
     let rest = drop (spaceFor (t .header .size) (t .header .capacity)) space in
-    let after : loadedAll (map hexLine (savedForm t)) space ≡ wordsOf t ++ rest = all-loaded (map hexLine (savedForm t)) space (wordsOf t ++ rest) (round-trip t is space n room) in
+    let after : loadedAll (map hexLine (savedForm t)) space .1 ≡ wordsOf t ++ rest = all-loaded (map hexLine (savedForm t)) space (wordsOf t ++ rest) (round-trip t is space n room) in
     subst (λ (w : List ℕ). Holds w s) (sym after) (record { table-is = laid-back t is rest ∙ H .table-is; held = laid-held t is rest })
 
 -- what the acts are in the meaning

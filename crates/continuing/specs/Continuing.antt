@@ -8,7 +8,7 @@ use Rattle.meaning.specs.Operations as meant
 use Rattle.layout.specs.Layout.{capacityIn, sizeIn, spaceFor, tableOf}
 use Rattle.hexes.specs.Hex.{hexLine}
 use Rattle.forms.specs.Forms.{savedForm}
-use Rattle.loading.specs.Loading.{loadedBy, underLoad}
+use Rattle.loading.specs.Loading.{loadedAll, underLoad}
 use Rattle.calls.specs.Answers.{answerOf}
 use Rattle.agreeing.specs.Lines.{acceptedBy}
 
@@ -17,15 +17,10 @@ pub data Act : Type 0 where
   said : List ℕ → Act
   restored : List ℕ → Act
 
--- A space after these lines were loaded into it, the first first.
-unfoldable pub loadedAll : List (List ℕ) → List ℕ → List ℕ
-loadedAll [] words = words
-loadedAll (line ∷ rest) words = loadedAll rest (loadedBy line words .1)
-
 -- The space of the table afterwards.
 unfoldable pub actAfter : Act → List ℕ → List ℕ
 actAfter (said line) words = answerOf line words .1
-actAfter (restored space) words = loadedAll (map hexLine (savedForm (tableOf words))) space
+actAfter (restored space) words = loadedAll (map hexLine (savedForm (tableOf words))) space .1
 
 unfoldable pub actsAfter : List Act → List ℕ → List ℕ
 actsAfter [] words = words

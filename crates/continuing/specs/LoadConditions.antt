@@ -15,7 +15,8 @@ use Rattle.saved.specs.Named.{clockRead, closingRead, lastRead, rowRead, totalR
 use Rattle.heard.specs.Hearing.{bytesOf, typeOf}
 use Rattle.taking.specs.declared.Loaded.{Loaded}
 use Rattle.taking.specs.declared.Loaded.the-variants as loaded
-use Rattle.taking.specs.Taking.{joined, joins, rowSaid, took}
+use Rattle.joining.specs.Joining.{joined, joins, rowSaid}
+use Rattle.taking.specs.Taking.{took}
 use Rattle.loading.specs.declared.Next.{Next}
 use Rattle.loading.specs.declared.Next.the-variants as next
 use Rattle.loading.specs.Loading.{underLoad}
@@ -61,7 +62,7 @@ loadResult (next.Last station) bytes words =
     took words (lastAt (sizeIn words) + station .0 * sizeIn words) (take (sizeIn words) (lastRead (sizeIn words) bytes .vector))
 loadResult (next.Total object) bytes words = took words (totalsAt + object * 2) (totalRead bytes .high ∷ totalRead bytes .low ∷ [])
 loadResult next.Rows bytes words =
-    pick (rowRead (sizeIn words) bytes .ok) (joined words (rowSaid (sizeIn words) (rowRead (sizeIn words) bytes))) (loaded.Table, set words 6 0)
+    pick (rowRead (sizeIn words) bytes .ok) (loaded.Taken, joined words (rowSaid (sizeIn words) (rowRead (sizeIn words) bytes))) (loaded.Table, set words 6 0)
 loadResult next.Nothing bytes words = (loaded.Taken, words)
 
 -- "and zeroes the table space"

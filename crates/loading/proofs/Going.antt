@@ -33,12 +33,13 @@ use Rattle.spoken.specs.Spoken.{headerRead, openedAs, openedBy}
 use Rattle.spoken.proofs.Opening.{open-ranges, open-room}
 use Rattle.forms.specs.declared.Sought.the-variants as sought
 use Rattle.forms.specs.Seeking.{counterAt}
-use Rattle.taking.specs.LoadHead.{LoadHead, progressIn}
+use Rattle.joining.specs.LoadHead.{LoadHead}
+use Rattle.joining.specs.Joining.{joined, joins, rowSaid}
+use Rattle.joining.proofs.Joining.{join-counts, join-room}
 use Rattle.taking.specs.declared.Loaded.{Loaded}
 use Rattle.taking.specs.declared.Loaded.the-variants as loaded
-use Rattle.taking.specs.Taking.{clockTaken, closed, finished, joined, joins, lastTaken, rowOrClosing, rowSaid, rowTaken, spoilt, took, totalTaken}
+use Rattle.taking.specs.Taking.{clockTaken, closed, finished, lastTaken, progressIn, rowOrClosing, rowTaken, spoilt, took, totalTaken}
 use Rattle.taking.proofs.Words.{passed, picked}
-use Rattle.taking.proofs.Joining.{join-counts, join-room}
 use Rattle.loading.specs.declared.Next.{Next}
 use Rattle.loading.specs.declared.Next.the-variants as next
 use Rattle.loading.specs.Loading.{begun, behindLasts, firstTaken, headLoads, loadWaits, loadedBy, nextAfter, nextIn, takenAs, underLoad, waits}
@@ -233,7 +234,7 @@ module _ (s : List ℕ) (u : underLoad s ≡ true) where
       let row = rowSaid (sizeIn s) f in
       let H₀ : LoadHead s = load-head s u in
       let wide : length row ≡ 7 + sizeIn s = omega (arith, length-take-le (sizeIn s) (f .vector) (omega (arith, long, H₀ .few))) in
-      either-on (leb (f .settled) 1 && joins s row) (joined s row) (spoilt s)
+      either-on (leb (f .settled) 1 && joins s row) (loaded.Taken, joined s row) (spoilt s)
       (λ t.
       let room : countIn s < capacityIn s = join-counts s row (joins s row) refl (and-right (leb (f .settled) 1) (joins s row) t) in
       joined-on s u e (spaceFor (sizeIn s) (countIn s)) row (omega arith) (join-room s row (sizeIn s) (spaceFor (sizeIn s) (countIn s)) refl refl H₀ wide room) room)

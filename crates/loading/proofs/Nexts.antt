@@ -20,8 +20,9 @@ use Rattle.forms.specs.declared.Sought.{Sought}
 use Rattle.forms.specs.declared.Sought.the-variants as sought
 use Rattle.forms.specs.Seeking.{counterAt, otherAt}
 use Rattle.forms.proofs.Places.{counter-below, other-below}
-use Rattle.taking.specs.LoadHead.{LoadHead, progressIn}
-use Rattle.taking.proofs.Words.{part-of, second-fails}
+use Rattle.joining.specs.LoadHead.{LoadHead}
+use Rattle.joining.proofs.Joining.{part-of, second-fails}
+use Rattle.taking.specs.Taking.{progressIn}
 use Rattle.loading.specs.declared.Next.{Next}
 use Rattle.loading.specs.declared.Next.the-variants as next
 use Rattle.loading.specs.Loading.{behindLasts, headLoads, loadWaits, nextAfter, nextIn, underLoad, waits}

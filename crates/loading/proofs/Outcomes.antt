@@ -21,9 +21,10 @@ use Rattle.heard.specs.Hearing.{bytesOf, typeOf}
 use Rattle.spoken.specs.declared.Opened.{Opened}
 use Rattle.spoken.specs.declared.Opened.the-variants as opened
 use Rattle.spoken.specs.Spoken.{headerRead, openedAs, openedBy}
+use Rattle.joining.specs.Joining.{joined, joins, rowSaid}
 use Rattle.taking.specs.declared.Loaded.{Loaded}
 use Rattle.taking.specs.declared.Loaded.the-variants as loaded
-use Rattle.taking.specs.Taking.{clockTaken, closed, finished, joined, joins, lastTaken, rowOrClosing, rowSaid, rowTaken, spoilt, took, totalTaken}
+use Rattle.taking.specs.Taking.{clockTaken, closed, finished, lastTaken, rowOrClosing, rowTaken, spoilt, took, totalTaken}
 use Rattle.taking.proofs.Words.{passed, picked}
 use Rattle.loading.specs.declared.Next.{Next}
 use Rattle.loading.specs.declared.Next.the-variants as next
@@ -49,8 +50,7 @@ module _ (s : List ℕ) where
   unfolding took
   took-kept at new = tt
 
-  joined-kept : (row : List ℕ) → Kept s (joined s row)
-  unfolding joined
+  joined-kept : (row : List ℕ) → Kept s (loaded.Taken, joined s row)
   joined-kept row = tt
 
   finished-kept : Kept s (finished s)
@@ -64,7 +64,7 @@ module _ (s : List ℕ) where
 
   row-kept : (f : Row) → Kept s (rowTaken f s)
   unfolding rowTaken
-  row-kept f = either (leb (f .settled) 1 && joins s (rowSaid (sizeIn s) f)) (joined s (rowSaid (sizeIn s) f)) (spoilt s) (joined-kept (rowSaid (sizeIn s) f)) spoilt-kept
+  row-kept f = either (leb (f .settled) 1 && joins s (rowSaid (sizeIn s) f)) (loaded.Taken, joined s (rowSaid (sizeIn s) f)) (spoilt s) (joined-kept (rowSaid (sizeIn s) f)) spoilt-kept
 
   closed-kept : (bytes : List ℕ) → Kept s (closed bytes s)
   unfolding closed

@@ -1,6 +1,6 @@
 -- Loading: a saved form read a line at a time into a lent space. What each line gets, and the space afterwards.
 use mathlib.Core.Bool.{Bool, true, false, _&&_}
-use mathlib.Core.List.{List}
+use mathlib.Core.List.{List, [], _∷_}
 use Prim.Native.Nat.{ℕ, zero, suc, _-_}
 use lib.Dec.{eqb, leb}
 use lib.ListN.{getD, length, set}
@@ -19,8 +19,7 @@ use Rattle.spoken.specs.declared.Opened.the-variants as opened
 use Rattle.spoken.specs.Spoken.{openedBy}
 use Rattle.taking.specs.declared.Loaded.{Loaded}
 use Rattle.taking.specs.declared.Loaded.the-variants as loaded
-use Rattle.taking.specs.LoadHead.{progressIn}
-use Rattle.taking.specs.Taking.{clockTaken, lastTaken, rowOrClosing, spoilt, totalTaken}
+use Rattle.taking.specs.Taking.{clockTaken, lastTaken, progressIn, rowOrClosing, spoilt, totalTaken}
 use Rattle.loading.specs.declared.Next.{Next}
 use Rattle.loading.specs.declared.Next.the-variants as next
 
@@ -87,6 +86,14 @@ firstTaken line words =
 -- The next line of a form to a space.
 unfoldable pub loadedBy : List ℕ → List ℕ → Loaded × List ℕ
 loadedBy line words = pick (underLoad words) (takenAs (nextIn words) (bytesOf line) words) (firstTaken line words)
+
+-- Lines one after the other, the first first: what each gets, and the space in the end.
+unfoldable pub loadedAll : List (List ℕ) → List ℕ → List Loaded × List ℕ
+loadedAll [] words = ([], words)
+loadedAll (line ∷ lines) words =
+    let first = loadedBy line words in
+    let rest = loadedAll lines (first .1) in
+    (first .0 ∷ rest .0, rest .1)
 
 -- The form is at its end: nothing where its table is there; 15 where it "ends before its closing line", or where no load was.
 unfoldable pub loadEnded : List ℕ → Loaded × List ℕ

@@ -6,7 +6,7 @@ ghost use lib.ListN.{length};
 ghost use Rattle.layout.specs.Layout.{clockAt};
 ghost use Rattle.heard.specs.Hearing.{bytesOf};
 ghost use Rattle.spoken.specs.Spoken.{openedBy};
-ghost use Rattle.taking.specs.LoadHead.{LoadHead};
+ghost use Rattle.joining.specs.LoadHead.{LoadHead};
 ghost use Rattle.loading.specs.Loading.{begun, behindLasts, firstTaken, headLoads, loadEnded, loadWaits, loadedBy, nextIn, takenAs, underLoad, waits};
 use forms::Sought;
 use layout::CAPACITY_AT;

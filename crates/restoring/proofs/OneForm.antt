@@ -62,8 +62,8 @@ idle-zeros zero = refl
 idle-zeros (suc n) = refl
 
 -- two tables with the same form are the same table
-pub same-form : (t u : Table) → isTable t ≡ true → isTable u ≡ true → map hexLine (savedForm t) ≡ map hexLine (savedForm u) → t ≡ u
-same-form t u is is′ e =
+pub one-form : (t u : Table) → isTable t ≡ true → isTable u ≡ true → map hexLine (savedForm t) ≡ map hexLine (savedForm u) → t ≡ u
+one-form t u is is′ e =
     let here = spaceFor (t .header .size) (t .header .capacity) in
     let there = spaceFor (u .header .size) (u .header .capacity) in
     let space : List ℕ = replicate (here + there) 0 in
@@ -74,9 +74,9 @@ same-form t u is is′ e =
     sym (laid-back t is (drop here space)) ∙ ap tableOf same ∙ laid-back u is′ (drop there space)
 
 -- and a form leaves the same table in every space
-pub one-form : (lines : List (List ℕ)) (words after words′ after′ : List ℕ) → underLoad words ≡ false → underLoad words′ ≡ false → loads lines words after → loads lines words′ after′ → tableOf after ≡ tableOf after′
+pub same-table-in-every-space : (lines : List (List ℕ)) (words after words′ after′ : List ℕ) → underLoad words ≡ false → underLoad words′ ≡ false → loads lines words after → loads lines words′ after′ → tableOf after ≡ tableOf after′
 unfolding holdsTable
-one-form lines words after words′ after′ idle idle′ h h′ =
+same-table-in-every-space lines words after words′ after′ idle idle′ h h′ =
     let A = form-that-loads lines words after idle h in
     let B = form-that-loads lines words′ after′ idle′ h′ in
-    same-form (tableOf after) (tableOf after′) (and-right (isSpelt after) (isTable (tableOf after)) (A .0)) (and-right (isSpelt after′) (isTable (tableOf after′)) (B .0)) (sym (A .1) ∙ B .1)
+    one-form (tableOf after) (tableOf after′) (and-right (isSpelt after) (isTable (tableOf after)) (A .0)) (and-right (isSpelt after′) (isTable (tableOf after′)) (B .0)) (sym (A .1) ∙ B .1)

@@ -1,5 +1,5 @@
 -- What a row's line said, and the closing line, that a space under load took.
-use mathlib.Core.Path.{_≡_, refl, sym, ap, ap₂, _∙_}
+use mathlib.Core.Path.{_≡_, refl, sym, ap, _∙_}
 use mathlib.Core.Bool.{Bool, true, false, not, _&&_, cond}
 use mathlib.Core.Logic.{_⊎_, inl, inr}
 use mathlib.Core.List.{List, [], _∷_, _++_, map}
@@ -20,6 +20,7 @@ use Rattle.layout.specs.Layout.{wordsOf, holdsTable, rowOf, rowWords}
 use Rattle.layout.proofs.Whole.{length-padded}
 use Rattle.layout.proofs.RowWords.{Shaped, Spelt, padded-all, row-written, short-row}
 use Rattle.rowrules.specs.RowTests.{contentKept, follows, kindOfRow, rowKept, tagKept, unsettledKept}
+use Rattle.rowrules.proofs.RowMeaning.{zeros-are}
 use Rattle.hexes.specs.Choice.{pick}
 use Rattle.hexes.specs.Hex.{hexLine}
 use Rattle.shapes.specs.Reading as shapes
@@ -33,8 +34,9 @@ use Rattle.formlines.specs.FormLines.{closingLine, rowLine}
 use Rattle.taking.specs.declared.Loaded.{Loaded}
 use Rattle.taking.specs.declared.Loaded.the-variants as loaded
 use Rattle.loading.specs.declared.Next.the-variants as next
-use Rattle.taking.specs.Taking as taking
-use Rattle.taking.specs.Taking.{closed, finished, joins, lastRow, rowOrClosing, rowPlace, rowSaid, rowTaken, spoilt}
+use Rattle.joining.specs.Joining as joining
+use Rattle.joining.specs.Joining.{joins, lastRow, rowPlace, rowSaid}
+use Rattle.taking.specs.Taking.{closed, finished, rowOrClosing, rowTaken, spoilt}
 use Rattle.loading.specs.Loading.{loadedBy, nextAfter, takenAs}
 use Rattle.restoring.proofs.Setting.{set-set}
 use Rattle.restoring.proofs.Under.{Fresh, under, count-is, kinds-are, clock-is}
@@ -42,10 +44,6 @@ use Rattle.restoring.proofs.Steps.{front-of}
 use Rattle.restoring.proofs.RowLines.{by-rows, last-is, lineOfRow, row-step}
 use Rattle.restoring.proofs.Heard.{heard-bytes, line-said, value-small, vector-padded}
 use Rattle.restoring.proofs.StepsBack.{Took, fresh-row, refused}
-
-zeros-all : (v : List ℕ) → allZero v ≡ true → v ≡ replicate (length v) 0
-zeros-all [] e = refl
-zeros-all (x ∷ v) e = ap₂ (λ (y : ℕ) (l : List ℕ). y ∷ l) (eqb-true x 0 (and-left (eqb x 0) (allZero v) e)) (zeros-all v (and-right (eqb x 0) (allZero v) e))
 
 settled-back : (s : ℕ) → s ≤ 1 → cond (eqb (1 - s) 0) 1 0 ≡ s
 settled-back zero h = refl
@@ -70,7 +68,7 @@ module _ (size : ℕ) (f : saved.Row) (long : length (take size (f .vector)) ≡
       let zero-all : cond (eqb (1 - f .settled) 0) (allZero (f .sender ∷ getD v (f .sender) 0 ∷ v)) (not (settledOnly kind) && unsettledKept clock said) ≡ true = and-right (contentKept kind (rowOf said .operation)) (tagKept kind clock said) kept in
       let all : eqb (f .sender) 0 && (eqb (getD v (f .sender) 0) 0 && allZero v) ≡ true = rw (eq-eqb (1 - f .settled) 0 z) at zero-all in (
         eqb-true (f .sender) 0 (and-left (eqb (f .sender) 0) (eqb (getD v (f .sender) 0) 0 && allZero v) all),
-        zeros-all v (and-right (eqb (getD v (f .sender) 0) 0) (allZero v) (and-right (eqb (f .sender) 0) (eqb (getD v (f .sender) 0) 0 && allZero v) all)) ∙ ap (λ (n : ℕ). replicate n 0) long,
+        zeros-are v (and-right (eqb (getD v (f .sender) 0) 0) (allZero v) (and-right (eqb (f .sender) 0) (eqb (getD v (f .sender) 0) 0 && allZero v) all)) ∙ ap (λ (n : ℕ). replicate n 0) long,
       )
 
   spelt : Spelt size said
@@ -190,7 +188,7 @@ module _ (t : Table) (F : Fresh t) (rest : List ℕ) (p : ℕ) (line : List ℕ)
       (spoilt space)
 
   row-answered : rowRead size bytes .ok ≡ true → loadedBy line space ≡ rowAnswer (rowRead size bytes)
-  unfolding takenAs rowOrClosing rowTaken taking.joined wordsOf
+  unfolding takenAs rowOrClosing rowTaken joining.joined wordsOf
   row-answered ok = by-rows t F rest p line c ∙ ap (λ (b : Bool). pick b (rowAnswer (rowRead size bytes)) (closed bytes space)) ok
 
   pub row-back : rowRead size bytes .ok ≡ true → (refused (loadedBy line space .0) ≡ true) ⊎ Took line space (rowLine size) (λ (r : Row). withRows t (t .rows ++ (r ∷ []))) p rest

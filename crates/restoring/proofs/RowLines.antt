@@ -34,7 +34,8 @@ use Rattle.formlines.proofs.Parts.{piece-at}
 use Rattle.taking.specs.declared.Loaded.{Loaded}
 use Rattle.taking.specs.declared.Loaded.the-variants as loaded
 use Rattle.loading.specs.declared.Next.the-variants as next
-use Rattle.taking.specs.Taking.{closed, finished, joined, joins, lastRow, rowOrClosing, rowPlace, rowSaid, rowTaken, spoilt}
+use Rattle.joining.specs.Joining.{joined, joins, lastRow, rowPlace, rowSaid}
+use Rattle.taking.specs.Taking.{closed, finished, rowOrClosing, rowTaken, spoilt}
 use Rattle.loading.specs.Loading.{loadedBy, nextAfter, takenAs, waits}
 use Rattle.restoring.proofs.Setting.{paste-set, set-set, set-swap}
 use Rattle.restoring.proofs.Under.{Fresh, under, size-is, capacity-is, count-is, kinds-are, clock-is, room, taken-by}

@@ -23,8 +23,7 @@ use Rattle.taking.specs.declared.Loaded.{Loaded}
 use Rattle.taking.specs.declared.Loaded.the-variants as loaded
 use Rattle.loading.specs.declared.Next.{Next}
 use Rattle.loading.specs.declared.Next.the-variants as next
-use Rattle.taking.specs.LoadHead.{progressIn}
-use Rattle.taking.specs.Taking.{took}
+use Rattle.taking.specs.Taking.{progressIn, took}
 use Rattle.loading.specs.Loading.{headLoads, loadWaits, loadedBy, nextAfter, nextIn, takenAs, underLoad, waits}
 use Rattle.restoring.proofs.Setting.{paste-set, set-set}
 

@@ -22,9 +22,10 @@ use Rattle.saved.specs.declared.LastVector.{LastVector}
 use Rattle.saved.specs.declared.Total.{Total}
 use Rattle.saved.specs.Named.{clockRead, lastRead, totalRead}
 use Rattle.saved.proofs.Vectors.{clock-vector, last-vector}
+use Rattle.joining.specs.LoadHead.{LoadHead}
+use Rattle.joining.proofs.Joining.{no-more, part-of, second-fails}
 use Rattle.taking.specs.declared.Loaded.{Loaded}
 use Rattle.taking.specs.declared.Loaded.the-variants as loaded
-use Rattle.taking.specs.LoadHead.{LoadHead}
 use Rattle.taking.specs.Taking.{clockTaken, lastTaken, spoilt, took, totalTaken}
 
 -- one of two, by what the test says
@@ -35,10 +36,6 @@ pub passed : {A : Type 0} (b : Bool) (x y : A) → b ≡ false → pick b x y �
 passed b x y e = rw e refl
 
 -- tests one after the other
-pub second-fails : (a b c : Bool) → b ≡ false → (a && (b && c)) ≡ false
-second-fails true b c e = rw e refl
-second-fails false b c e = refl
-
 pub third-fails : (a b c : Bool) → c ≡ false → (a && (b && c)) ≡ false
 third-fails true b c e = rw e (and-false b)
 third-fails false b c e = refl
@@ -47,10 +44,6 @@ pub all-three : (a b c : Bool) → a ≡ true → b ≡ true → c ≡ true → 
 all-three a b c e f g = rw (e, f, g) refl
 
 -- zeros
-pub no-more : (l : List ℕ) → l ++ [] ≡ l
-no-more [] = refl
-no-more (x ∷ l) = ap (λ (t : List ℕ). x ∷ t) (no-more l)
-
 pub all-spoilt : (s x : List ℕ) → x ≡ take 0 s ++ replicate (length s - 0) 0 ++ drop (length s) s → (loaded.Refused 15, x) ≡ spoilt s
 unfolding spoilt
 all-spoilt s x e =
@@ -63,10 +56,6 @@ unfolding took
 words-taken s new x at e =
     let one : getD s 6 0 + 1 ≡ suc (getD s 6 0) = omega arith in
     rw (one, e) refl
-
--- the clock, where its end equals what the head says
-pub part-of : (s : List ℕ) (at n m : ℕ) → n ≡ m → take (at + n - at) (drop at s) ≡ take m (drop at s)
-part-of s at n m e = let q : at + n - at ≡ m = omega arith in ap (λ (k : ℕ). take k (drop at s)) q
 
 -- D
 module _ (s bytes : List ℕ) (n : ℕ) (e : n ≡ getD s 1 0) (f : Clock) (h : f ≡ clockRead n bytes) where

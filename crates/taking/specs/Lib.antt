@@ -1,2 +1,1 @@
-pub mod LoadHead
 pub mod Taking

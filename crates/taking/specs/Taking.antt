@@ -1,21 +1,28 @@
 -- A line of a saved form to a space under load: what it gets where it is the one that comes next, and the space afterwards.
-use mathlib.Core.Bool.{Bool, true, _&&_}
+use mathlib.Core.Bool.{_&&_}
 use mathlib.Core.List.{List, [], _∷_}
-use Prim.Native.Nat.{ℕ, suc, _+_, _-_, _*_}
-use lib.Dec.{eqb, leb, ltb}
-use lib.ListN.{drop, getD, length, replicate, set, take}
+use Prim.Native.Nat.{ℕ, suc, _+_, _*_}
+use lib.Dec.{eqb, leb}
+use lib.ListN.{getD, length, replicate, set, take}
 use lib.Seq.{paste}
 use Rattle.meaning.specs.Table.{totalBound}
-use Rattle.layout.specs.Layout.{capacityIn, clockAt, countIn, holdsTable, lastAt, ownIn, rowWidth, sizeIn, spaceFor, totalOfWords, totalsAt}
+use Rattle.layout.specs.Layout.{clockAt, countIn, holdsTable, lastAt, ownIn, sizeIn, totalOfWords, totalsAt}
 use Rattle.rules.specs.TableTests.{clockIn, kindsIn}
-use Rattle.rowrules.specs.RowTests.{follows, rowKept}
 use Rattle.clockrules.specs.ClockTests.{lastKept, totalKept}
 use Rattle.hexes.specs.Choice.{pick}
 use Rattle.saved.specs.declared.Row.{Row}
 use Rattle.saved.specs.Named.{clockRead, closingRead, lastRead, rowRead, totalRead}
+use Rattle.joining.specs.Joining.{joined, joins, rowSaid}
 use Rattle.taking.specs.declared.Loaded.{Loaded}
 use Rattle.taking.specs.declared.Loaded.the-variants as loaded
-use Rattle.taking.specs.LoadHead.{progressIn}
+
+-- The seventh word is 0 in a table. Under load it says how many lines were taken, those of rows aside.
+abbrev pub progressIn : List ℕ → ℕ
+progressIn words = getD words 6 0
+
+-- The opening line, D, and the lines of the other stations and of the counters: no form has more lines ahead of its rows.
+abbrev pub mostProgress : ℕ
+mostProgress = 49
 
 -- "In a load every wrong line ... gets 15 ... and zeroes the table space".
 unfoldable pub spoilt : List ℕ → Loaded × List ℕ
@@ -49,36 +56,11 @@ totalTaken object bytes words =
     (took words (totalsAt + object * 2) total)
     (spoilt words)
 
--- The words of the row that a `53` line says; "01 settled or 00".
-unfoldable pub rowSaid : ℕ → Row → List ℕ
-rowSaid size f =
-    let vector = take size (f .vector) in
-    f .object ∷ 0 ∷ f .value ∷ f .code ∷ (1 - f .settled) ∷ f .sender ∷ getD vector (f .sender) 0 ∷ vector
-
--- The place of a row stands behind the words of a table with as many rows as are before it.
-abbrev pub rowPlace : List ℕ → ℕ → ℕ
-rowPlace words k = spaceFor (sizeIn words) k
-
--- The row that was taken last.
-unfoldable pub lastRow : List ℕ → List ℕ
-lastRow words = take (rowWidth (sizeIn words)) (drop (rowPlace words (countIn words - 1)) words)
-
--- A row may join: at most capacity, by its own rules, and in order behind the last.
-unfoldable pub joins : List ℕ → List ℕ → Bool
-joins words row =
-    ltb (countIn words) (capacityIn words)
-    && (rowKept (kindsIn words) (clockIn words) row
-    && pick (eqb (countIn words) 0) true (follows (kindsIn words) (lastRow words) row))
-
--- It joins behind the last, and is counted.
-unfoldable pub joined : List ℕ → List ℕ → Loaded × List ℕ
-joined words row = (loaded.Taken, set (paste words (rowPlace words (countIn words)) row (length row)) 5 (suc (countIn words)))
-
 -- `53`, by the rules of rows.
 unfoldable pub rowTaken : Row → List ℕ → Loaded × List ℕ
 rowTaken f words =
     let row = rowSaid (sizeIn words) f in
-    pick (leb (f .settled) 1 && joins words row) (joined words row) (spoilt words)
+    pick (leb (f .settled) 1 && joins words row) (loaded.Taken, joined words row) (spoilt words)
 
 -- No load is under way any more: the words are a table by the rules, or nothing.
 unfoldable pub finished : List ℕ → Loaded × List ℕ

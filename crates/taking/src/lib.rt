@@ -1,38 +1,26 @@
 // A line of a saved form taken into a space under load, where it is the one that comes next. A wrong line leaves zeros; the closing line asks whether
 // the words are a table.
 ghost use mathlib.Core.Path.{_≡_};
-ghost use mathlib.Core.List.{_++_};
 ghost use Prim.Native.Nat.{_+_, _≤_, _<_};
-ghost use lib.ListN.{drop, length};
-ghost use Rattle.layout.specs.Layout.{capacityIn, countIn, objectsIn, rowWidth, sizeIn};
-ghost use Rattle.taking.specs.LoadHead.{LoadHead, mostProgress, progressIn};
-ghost use Rattle.taking.specs.Taking.{clockTaken, closed, finished, joined, joins, lastTaken, rowOrClosing, rowSaid, rowTaken, spoilt, took, totalTaken};
-use layout::CAPACITY_AT;
+ghost use lib.ListN.{length};
+ghost use Rattle.layout.specs.Layout.{objectsIn, sizeIn};
+ghost use Rattle.joining.specs.LoadHead.{LoadHead};
+ghost use Rattle.taking.specs.Taking.{clockTaken, closed, finished, lastTaken, mostProgress, progressIn, rowOrClosing, rowTaken, spoilt, took, totalTaken};
+use joining::SETTLED;
 use layout::CLOCK_AT;
 use layout::COUNT_AT;
 use layout::KEY;
 use layout::KINDS_AT;
 use layout::LOADING_AT;
-use layout::OBJECTS_AT;
 use layout::OWN_AT;
 use layout::SIZE_AT;
 use layout::TOTAL_WORDS;
 use layout::TOTALS_AT;
 use saved::Row;
-use tags::RowCount;
 use tags::Station;
 
 // "a saved line that is misplaced, misshapen or breaks a table rule"
 pub const WRONG: u32 = 15;
-
-// The settled byte of a settled row, above which there is none.
-const SETTLED: u32 = 1;
-
-// The high word of a value.
-const HIGH: u32 = 0;
-
-// The words of a row of the largest group.
-const WIDEST: usize = 23;
 
 // What a line of a form gets: a refusal's number, nothing but that it is taken, or that it closes the form and the table is there.
 pub enum Loaded {
@@ -119,68 +107,6 @@ pub fn take_total(space: &mut [u32], bytes: &[u8], object: usize) -> Loaded
     spoil(space)
 }
 
-// The words of the row that a line says; behind them stands what its array has beyond the group's entries.
-fn row_words(f: Row, size: usize) -> [u32; WIDEST]
-    requires { ⌜ (length (f .vector) ≡ 16) × (f .settled ≤ 1) × (size ≤ 16) ⌝ }
-    ensures { λ r. ⌜ r ≡ rowSaid size f ++ drop size (f .vector) ⌝ }
-{
-    let vector = f.vector;
-    let number = tags::number_at(&vector[0..size], Station(f.sender));
-    let unsettled = SETTLED - f.settled;
-    let key = [
-        f.object,
-        HIGH,
-        f.value,
-        f.code,
-        unsettled,
-        f.sender,
-        number.0,
-    ];
-    let mut row = [0u32; WIDEST];
-    moves::put(&mut row, 0, &key);
-    moves::put(&mut row, KEY, &vector);
-    row
-}
-
-// Whether a row may join those that were taken.
-fn may_join(space: &[u32], row: &[u32]) -> bool
-    requires { ⌜ LoadHead (now space) × (length (now row) ≡ rowWidth (sizeIn (now space))) ⌝ }
-    ensures { λ r. ⌜ r ≡ joins (now (space .entry)) (now (row .entry)) ⌝ }
-{
-    let count = space[COUNT_AT];
-    if space[CAPACITY_AT] <= count {
-        return false;
-    }
-    let size = tags::wide(space[SIZE_AT]);
-    let kinds_end = KINDS_AT + tags::wide(space[OBJECTS_AT]);
-    let clock_end = CLOCK_AT + size;
-    if !rowrules::row_ok(
-        row,
-        &space[KINDS_AT..kinds_end],
-        &space[CLOCK_AT..clock_end],
-    ) {
-        return false;
-    }
-    if count == 0 {
-        return true;
-    }
-    let last = ranges::space_for(size, RowCount(count - 1));
-    let end = last + KEY;
-    rowrules::may_follow(&space[last..end], &row[0..KEY], &space[KINDS_AT..kinds_end])
-}
-
-// A row behind those that were taken, and one more of them.
-fn join(space: &mut [u32], row: &[u32]) -> Loaded
-    requires { ⌜ LoadHead (now space) × (length (now row) ≡ rowWidth (sizeIn (now space))) × (countIn (now space) < capacityIn (now space)) ⌝ }
-    ensures { λ r. ⌜ (r, now (space .exit)) ≡ joined (now (space .entry)) (now (row .entry)) ⌝ }
-{
-    let count = space[COUNT_AT];
-    let at = ranges::space_for(tags::wide(space[SIZE_AT]), RowCount(count));
-    moves::put(space, at, row);
-    space[COUNT_AT] = count + 1;
-    Loaded::Taken
-}
-
 // A row, by its own rules and in order behind the last.
 fn take_row(space: &mut [u32], f: Row) -> Loaded
     requires { ⌜ LoadHead (now space) × (length (f .vector) ≡ 16) ⌝ }
@@ -190,10 +116,11 @@ fn take_row(space: &mut [u32], f: Row) -> Loaded
         return spoil(space);
     }
     let size = tags::wide(space[SIZE_AT]);
-    let row = row_words(f, size);
+    let row = joining::row_words(f, size);
     let width = KEY + size;
-    if may_join(space, &row[0..width]) {
-        return join(space, &row[0..width]);
+    if joining::may_join(space, &row[0..width]) {
+        joining::join(space, &row[0..width]);
+        return Loaded::Taken;
     }
     spoil(space)
 }

@@ -1,5 +1,5 @@
 use borrow.Author.Tests.{not-true, not-false}
-use Rattle.taking.proofs.Joining.{closing-misshapen, closing-right, closing-wrong-count}
+use Rattle.taking.proofs.Closing.{closing-misshapen, closing-right, closing-wrong-count}
 use borrow.Author.Needs.{needs}
 use Rattle.taking.proofs.close.Statement.{statement}
 use Rattle.taking.proofs.close.Tie as tie

@@ -1,4 +1,4 @@
-use Rattle.taking.proofs.Joining.{finish-none, finish-table, spoilt-long}
+use Rattle.taking.proofs.Closing.{finish-none, finish-table, spoilt-long}
 use borrow.Author.Needs.{needs}
 use Rattle.taking.proofs.finish.Statement.{statement}
 use Rattle.taking.proofs.finish.Tie as tie

@@ -1,4 +1,5 @@
-use Rattle.taking.proofs.Joining.{join-counts, row-misshapen, row-right, row-unruly}
+use Rattle.joining.proofs.Joining.{join-counts}
+use Rattle.taking.proofs.Closing.{row-misshapen, row-right, row-unruly}
 use borrow.Author.Needs.{needs}
 use Rattle.taking.proofs.take_row.Statement.{statement}
 use Rattle.taking.proofs.take_row.Tie as tie

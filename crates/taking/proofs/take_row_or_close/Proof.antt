@@ -1,4 +1,4 @@
-use Rattle.taking.proofs.Joining.{closing-comes, row-comes}
+use Rattle.taking.proofs.Closing.{closing-comes, row-comes}
 use borrow.Author.Needs.{needs}
 use Rattle.taking.proofs.take_row_or_close.Statement.{statement}
 use Rattle.taking.proofs.take_row_or_close.Tie as tie

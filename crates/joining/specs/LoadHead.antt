@@ -1,16 +1,8 @@
 -- What is known of the head of a space that a form is loaded into: with it, the places of a table's parts close by themselves.
 use mathlib.Core.List.{List}
 use Prim.Native.Nat.{ℕ, _*_, _≤_, _<_}
-use lib.ListN.{getD, length}
+use lib.ListN.{length}
 use Rattle.layout.specs.Layout.{capacityIn, clockAt, countIn, objectsIn, ownIn, sizeIn, spaceFor}
-
--- The seventh word is 0 in a table. Under load it says how many lines were taken, those of rows aside.
-abbrev pub progressIn : List ℕ → ℕ
-progressIn words = getD words 6 0
-
--- The opening line, D, and the lines of the other stations and of the counters: no form has more lines ahead of its rows.
-abbrev pub mostProgress : ℕ
-mostProgress = 49
 
 pub record LoadHead (words : List ℕ) : Type 0 where
   pub some : 1 ≤ sizeIn words

@@ -1,7 +1,7 @@
-use Rattle.taking.proofs.Joining.{join-room, row-joined}
+use Rattle.joining.proofs.Joining.{join-room, row-joined}
 use borrow.Author.Needs.{needs}
-use Rattle.taking.proofs.join.Statement.{statement}
-use Rattle.taking.proofs.join.Tie as tie
+use Rattle.joining.proofs.join.Statement.{statement}
+use Rattle.joining.proofs.join.Tie as tie
 
 put-requires : tie.Need-put-requires
 put-requires c κs = search join-room

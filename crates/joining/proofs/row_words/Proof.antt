@@ -1,7 +1,7 @@
-use Rattle.taking.proofs.Joining.{row-made}
+use Rattle.joining.proofs.Joining.{row-made}
 use borrow.Author.Needs.{needs}
-use Rattle.taking.proofs.row_words.Statement.{statement}
-use Rattle.taking.proofs.row_words.Tie as tie
+use Rattle.joining.proofs.row_words.Statement.{statement}
+use Rattle.joining.proofs.row_words.Tie as tie
 
 returns : tie.Need-returns
 returns c = search row-made

@@ -1,8 +1,8 @@
 use borrow.Author.Tests.{not-true, not-false}
-use Rattle.taking.proofs.Joining.{join-after, join-first, join-full, join-unruly, last-row-room}
+use Rattle.joining.proofs.Joining.{join-after, join-first, join-full, join-unruly, last-row-room}
 use borrow.Author.Needs.{needs}
-use Rattle.taking.proofs.may_join.Statement.{statement}
-use Rattle.taking.proofs.may_join.Tie as tie
+use Rattle.joining.proofs.may_join.Statement.{statement}
+use Rattle.joining.proofs.may_join.Tie as tie
 
 returns : tie.Need-returns
 returns c = search join-full

@@ -1,0 +1,2 @@
+pub mod LoadHead
+pub mod Joining
