@@ -61,7 +61,7 @@ module _ (line words : List ℕ) (idle : underLoad words ≡ false) where
   unfolding loadedBy
   first = rw idle refl
 
-  pub opening-back : (refused (loadedBy line words .0) ≡ true) ⊎ Took line words openingLine opened 1 kept
+  pub opening-back : (refused (loadedBy line words .0) ≡ true) ⊎ Took line words openingLine opened (λ (h : Header). inRange h ≡ true) 1 kept
   unfolding firstTaken begun openedBy openedAs meaning.openTable opened
   opening-back = cases (eqb (typeOf line) 16)
       (λ type. cases (openingRead bytes .ok)
@@ -70,6 +70,7 @@ module _ (line words : List ℕ) (idle : underLoad words ≡ false) where
         what = header;
         line-is = line-is ok;
         fresh = fresh-of header (open-ranges words (spaceFor (header .size) (header .capacity)) header refusal refl (eqb-true refusal 0 none));
+        kept = open-ranges words (spaceFor (header .size) (header .capacity)) header refusal refl (eqb-true refusal 0 none);
         next-is = first ∙ rw (type, ok, none) refl;
       }))
       (λ some. inl (ap (λ (o : Loaded × List ℕ). refused (o .0)) first ∙ rw (type, ok, some) refl)))

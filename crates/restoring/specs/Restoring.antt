@@ -2,6 +2,7 @@
 use mathlib.Core.Path.{_≡_}
 use mathlib.Core.List.{List, [], _∷_}
 use Prim.Native.Nat.{ℕ}
+use lib.ListN.{set}
 use Rattle.taking.specs.declared.Loaded.the-variants as loaded
 use Rattle.loading.specs.Loading.{loadedBy}
 
@@ -15,3 +16,7 @@ abbrev pub loads : List (List ℕ) → List ℕ → List ℕ → Type 0
 loads [] words after = ⊥
 loads (line ∷ []) words after = loadedBy line words ≡ (loaded.Table, after)
 loads (line ∷ next ∷ lines) words after = (loadedBy line words .0 ≡ loaded.Taken) × loads (next ∷ lines) (loadedBy line words .1) after
+
+-- The words as they are where no load is under way: the seventh of them is 0.
+abbrev pub loadOver : List ℕ → List ℕ
+loadOver words = set words 6 0
