@@ -37,7 +37,9 @@ use Rattle.calls.proofs.Calling.{Holds, after-both, opening-in-range, reply-agr
 use Rattle.calls.proofs.Lines.{line-accepted, next-holds, opened-fresh, opened-holds, question-on}
 -- a form that loads is the form that its table saves, and two tables with the same form are the same table
 pub use Rattle.restoring.proofs.OneForm.{form-that-loads, one-form, same-form}
--- each table rule is refused at the line that breaks it: none is left to the closing line
+-- each table rule is refused at the line that breaks it: a line is taken exactly when with it the lines still begin some table's form
+pub use Rattle.restoring.proofs.Beginnings.{each-rule-at-its-line, wrong-at-once}
+-- so no rule is left to the closing line
 pub use Rattle.restoring.proofs.EachRule.{rules-kept, table-before-closing}
 -- 1, 13 and 15 of a line of a form, exactly when
 pub use Rattle.continuing.proofs.LoadsExactly.{exactly-when}

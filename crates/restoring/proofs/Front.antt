@@ -46,15 +46,15 @@ use Rattle.restoring.proofs.Steps.{clock-step, last-step, total-step}
 use Rattle.restoring.proofs.Mixed.{mixed, mixed-set, mixed-same, mixed-whole, length-mixed, each-mixed, first-taken}
 
 -- the lines are bytes
-clock-bytes : (v : Vector) → AllBytes (clockLine v)
+pub clock-bytes : (v : Vector) → AllBytes (clockLine v)
 unfolding clockLine
 clock-bytes v = all-bytes-line-of clock [] v
 
-last-bytes : (k : ℕ) (v : Vector) → AllBytes (lastLine k v)
+pub last-bytes : (k : ℕ) (v : Vector) → AllBytes (lastLine k v)
 unfolding lastLine
 last-bytes k v = all-bytes-line-of lastVector (k ∷ []) v
 
-total-bytes : (o : ℕ) (z : ℤ) → AllBytes (totalLine o z)
+pub total-bytes : (o : ℕ) (z : ℤ) → AllBytes (totalLine o z)
 unfolding totalLine
 total-bytes o z = all-bytes-line-of total (o ∷ totalWords z) []
 
@@ -303,7 +303,7 @@ module _ (t : Table) (is : isTable t ≡ true) (rest : List ℕ) where
   unfolding kindIn
   step-passed k q = rw q refl
 
-  pub total-held : (k : ℕ) → k < length kinds → totalKept (totalBound (t .clock)) (getD kinds k 0) (getD (t .totals) k (pos 0)) ≡ true
+  total-held : (k : ℕ) → k < length kinds → totalKept (totalBound (t .clock)) (getD kinds k 0) (getD (t .totals) k (pos 0)) ≡ true
   unfolding totalKept totalRule kindIn
   total-held k b = F .total-rule k b
 

@@ -1,6 +1,6 @@
 -- What a load has taken so far keeps its table rules: a last vector, a total and a row each from its own line on.
 use mathlib.Core.Path.{_≡_, refl, sym, ap, _∙_, subst}
-use mathlib.Core.Bool.{Bool, true, false, _&&_, cond, false≢true}
+use mathlib.Core.Bool.{Bool, true, false, _&&_, and-false, false≢true}
 use mathlib.Core.List.{List, [], _∷_, _++_, map}
 use Prim.Native.Nat.{ℕ, zero, suc, _+_, _-_, _≤_, _<_}
 use native.Mathlib.Nat.{zero-add}
@@ -12,9 +12,9 @@ use lib.Seq.{getD-set-same, getD-set-other}
 use borrow.Author.Tests.{eq-eqb, eqb-true, eqb-false, le-leb}
 use Rattle.meaning.specs.Tests.{every}
 use Rattle.meaning.specs.Order.{Vector, entryLimit, atMost}
-use Rattle.meaning.specs.Operations.{isCounter}
+use Rattle.meaning.specs.Operations.{growCounter, isCounter}
 use Rattle.meaning.specs.Rows.{Row, inOrder}
-use Rattle.meaning.specs.Table.{Header, Table, clockRule, inRange, isTable, kindIn, lastRule, lastsRule, oneRowAValue, opened, rowRule, tableRules, totalBound, totalRule, totalsRule, zeros}
+use Rattle.meaning.specs.Table.{Header, Table, clockRule, inRange, isNegative, isTable, kindIn, lastRule, lastsRule, oneRowAValue, opened, rowRule, tableRules, totalBound, totalRule, totalsRule, zeros}
 use Rattle.meaning.specs.Calls.{withRows}
 use Rattle.meaning.proofs.Tests.{and-both, and-left, and-right, at-every, cases}
 use Rattle.meaning.proofs.Vectors.{at-most-refl, eq-same}
@@ -32,7 +32,6 @@ use Rattle.clockrules.specs.ClockTests.{lastKept, totalKept}
 use Rattle.loading.specs.declared.Next.the-variants as next
 use Rattle.loading.specs.Loading.{nextAfter}
 use Rattle.restoring.proofs.Under.{Fresh}
-use Rattle.restoring.proofs.Front.{total-held}
 use Rattle.restoring.proofs.RoundTrip.{map-append, readable, rows-back}
 use Rattle.restoring.proofs.RowBack.{RowRules}
 use Rattle.restoring.proofs.Places.{clock-first, last-before, lastPlace, lasts-there, no-last-before, no-total-before, total-before, totalPlace, totals-there}
@@ -46,6 +45,13 @@ pub record Keeps (p : ℕ) (t : Table) : Type 0 where
   pub each : every (rowKept (t .header .kinds) (t .clock)) (map (rowWords (t .header .size)) (t .rows)) ≡ true
   pub order : chained (follows (t .header .kinds)) (map (rowWords (t .header .size)) (t .rows)) ≡ true
 
+-- a total of 0 keeps its rule in every kind
+pub zero-kept : (bound kind : ℕ) → totalKept bound kind (pos 0) ≡ true
+unfolding totalKept isNegative
+zero-kept bound kind = cases (isCounter kind)
+    (λ q. rw (q, le-leb 0 bound (omega arith), and-false (eqb kind growCounter)) refl)
+    (λ q. rw q refl)
+
 -- `10`
 pub keeps-opened : (header : Header) → inRange header ≡ true → Fresh (opened header) → Keeps 1 (opened header)
 unfolding opened zeros lastKept
@@ -55,15 +61,13 @@ keeps-opened header range F =
     record {
       fresh = F;
       small = facts (opened header) is .clock-words;
-      lasts = λ k b f. rw (getD-replicate (header .size) k none [] b, are-zeros (header .size), eq-eqb (getD none k 0) (getD none k 0) refl, at-most-refl none) (alike (eqb k (header .own)));
-      totals = λ o b f. total-held (opened header) is [] o b;
+      lasts = λ k b f. cases (eqb k (header .own))
+          (λ q. rw (getD-replicate (header .size) k none [] b, q) (are-zeros (header .size)))
+          (λ q. rw (getD-replicate (header .size) k none [] b, q, eq-eqb (getD none k 0) (getD none k 0) refl) (at-most-refl none));
+      totals = λ o b f. rw (getD-replicate (length (header .kinds)) o (pos 0) (pos 0) b) (zero-kept (totalBound none) (getD (header .kinds) o 0));
       each = refl;
       order = refl;
     }
-  where
-    alike : (b : Bool) → cond b true true ≡ true
-    alike true = refl
-    alike false = refl
 
 -- a row more
 every-behind : {A : Type 0} (p : A → Bool) (l : List A) (x : A) → every p l ≡ true → p x ≡ true → every p (l ++ (x ∷ [])) ≡ true

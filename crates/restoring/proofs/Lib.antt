@@ -17,3 +17,4 @@ pub mod OneForm
 pub mod Places
 pub mod Keeps
 pub mod EachRule
+pub mod Beginnings

@@ -4,15 +4,15 @@ use mathlib.Core.Bool.{Bool, true, false, cond, false≢true}
 use mathlib.Core.List.{List, [], _∷_}
 use Prim.Native.Nat.{ℕ, zero, suc, _+_, _-_, _<_}
 use native.Mathlib.Omega.{arith}
-use lib.Dec.{eqb, leb}
+use lib.Dec.{eqb, leb, ltb}
 use lib.ListN.{getD, length}
-use borrow.Author.Tests.{eqb-true, ne-eqb, leb-true, leb-false}
+use borrow.Author.Tests.{eqb-true, ne-eqb, leb-true, leb-false, ltb-true, ltb-false}
 use Rattle.meaning.specs.Operations.{isCounter}
 use Rattle.meaning.specs.Table.{Header, inRange, kindIn, opened}
 use Rattle.meaning.proofs.Tests.{cases}
 use Rattle.meaning.proofs.TableFacts.{header-facts}
 use Rattle.meaning.proofs.TableRules.{opened-is-table}
-use Rattle.forms.specs.Seeking.{counterAt}
+use Rattle.forms.specs.Seeking.{counterAt, otherAt}
 use Rattle.forms.specs.declared.Sought.{Sought}
 use Rattle.forms.specs.declared.Sought.the-variants as sought
 use Rattle.loading.specs.declared.Next.{Next}
@@ -42,6 +42,13 @@ objectOf (next.Total object) = object
 objectOf next.Rows = 0
 objectOf next.Nothing = 0
 
+abbrev isLast : Next → Bool
+isLast next.Clock = false
+isLast (next.Last station) = true
+isLast (next.Total object) = false
+isLast next.Rows = false
+isLast next.Nothing = false
+
 abbrev isTotal : Next → Bool
 isTotal next.Clock = false
 isTotal (next.Last station) = false
@@ -68,6 +75,19 @@ unfolding behindLasts
 no-clock (sought.At object) e = false≢true e
 no-clock (sought.Behind zero) e = false≢true e
 no-clock (sought.Behind (suc more)) e = false≢true e
+
+no-last : (found : Sought) → isLast (behindLasts found) ≡ true → ⊥
+unfolding behindLasts
+no-last (sought.At object) e = false≢true e
+no-last (sought.Behind zero) e = false≢true e
+no-last (sought.Behind (suc more)) e = false≢true e
+
+-- the own station is passed over
+other-not-own : (own ahead : ℕ) → otherAt own ahead ≡ own → ⊥
+unfolding otherAt
+other-not-own own ahead e = cases (ltb ahead own)
+    (λ q. omega (arith, ltb-true ahead own q, rw q at e))
+    (λ q. omega (arith, ltb-false ahead own q, rw q at e))
 
 -- where rows are next every counter is passed
 passed-all : (kinds : List ℕ) (object n : ℕ) → behindLasts (counterAt kinds object n) ≡ next.Rows → (i : ℕ) → i < length kinds → isCounter (getD kinds i 0) ≡ true → counters kinds i < n
@@ -122,6 +142,16 @@ module _ (header : Header) (range : inRange header ≡ true) (p : ℕ) where
       (λ d₀. cases (leb p (header .size))
       (λ w. absurd (false≢true (ap isClock (rw (d₀, d, w) at c))))
       (λ w. absurd (no-clock (counterAt (header .kinds) 0 (p - suc (header .size))) (ap isClock (rw (d₀, d, w) at c))))))
+
+  pub last-other : (k : ℕ) → coming ≡ next.Last (record { 0 = k }) → k ≡ header .own → ⊥
+  unfolding nextAfter
+  last-other k c e = cases (eqb p 0)
+      (λ z. false≢true (ap isLast (rw z at c)))
+      (λ d₀. cases (eqb p 1)
+      (λ z. false≢true (ap isLast (rw (d₀, z) at c)))
+      (λ d. cases (leb p (header .size))
+      (λ w. other-not-own (header .own) (p - 2) (ap stationOf (rw (d₀, d, w) at c) ∙ e))
+      (λ w. no-last (counterAt (header .kinds) 0 (p - suc (header .size))) (ap isLast (rw (d₀, d, w) at c)))))
 
   module _ (c : coming ≡ next.Rows) where
     behind : (header .size < p) × (behindLasts (counterAt (header .kinds) 0 (p - suc (header .size))) ≡ next.Rows)

@@ -183,11 +183,11 @@ module _ (t : Table) (is : isTable t ≡ true) (rest : List ℕ) where
   unfolding rowRead lineRead
   closing-is-no-row = no-shape (headOf row) size (closingLine (length (t .rows))) (closing-first (length (t .rows)))
 
-  pub closing-loads : loadedBy (hexLine (closingLine (length (t .rows)))) (under progress t rest) ≡ (loaded.Table, wordsOf t ++ rest)
-  closing-loads =
+  pub closing-at : (p : ℕ) → nextAfter size (t .header .own) (t .header .kinds) p ≡ next.Rows → loadedBy (hexLine (closingLine (length (t .rows)))) (under p t rest) ≡ (loaded.Table, wordsOf t ++ rest)
+  closing-at p c =
       let line = closingLine (length (t .rows)) in
       let heard : bytesOf (hexLine line) ≡ line = bytes-back line (replicate 261 0) (closing-bytes (length (t .rows))) (length-replicate {A = ℕ} 261 0) (omega (arith, closing-short t is)) in
-      close-step t fresh-whole rest progress (hexLine line) (next-rows t is rest) (rw heard closing-is-no-row) (ap closingRead heard ∙ closing-back t is) is
+      close-step t fresh-whole rest p (hexLine line) c (rw heard closing-is-no-row) (ap closingRead heard ∙ closing-back t is) is
 
 -- `10`
 opening-type : (header : Header) → typeOf (hexLine (openingLine header)) ≡ 16
@@ -240,7 +240,7 @@ module _ (t : Table) (is : isTable t ≡ true) (space : List ℕ) (no-load : und
       (then-taken L (T ++ R) (under 2 (lasts-at t is beyond 0) beyond) (behind-lasts t is beyond) (under (progress t is beyond) t beyond) (lasts-taken t is beyond)
       (then-taken T R (behind-lasts t is beyond) (behind-totals t is beyond) (under (progress t is beyond) t beyond) (totals-taken t is beyond) (rows-taken t is beyond)))) in
       let form : map hexLine (savedForm t) ≡ front ++ (end ∷ []) = spelt in
-      subst (λ (l : List (List ℕ)). loads l space (wordsOf t ++ beyond)) (sym form) (then-closed front end space (under (progress t is beyond) t beyond) (wordsOf t ++ beyond) all (closing-loads t is beyond))
+      subst (λ (l : List (List ℕ)). loads l space (wordsOf t ++ beyond)) (sym form) (then-closed front end space (under (progress t is beyond) t beyond) (wordsOf t ++ beyond) all (closing-at t is beyond (progress t is beyond) (next-rows t is beyond)))
     where
       spelt : map hexLine (savedForm t) ≡ (line ∷ hexLine (clockLine (t .clock)) ∷ (map hexLine (lastLines t) ++ (map hexLine (totalLines t) ++ map hexLine (map (rowLine (t .header .size)) (t .rows))))) ++ (hexLine (closingLine (length (t .rows))) ∷ [])
       spelt =
