@@ -31,16 +31,16 @@ use Rattle.formlines.specs.FormLines.{openingLine, clockLine, lastLine, totalLi
 use Rattle.formlines.proofs.Parts.{row-small}
 
 -- every entry of a list is below a limit; what is behind its end is 0
-abbrev Below : ℕ → List ℕ → Type 0
+abbrev pub Below : ℕ → List ℕ → Type 0
 Below limit list = (i : ℕ) → getD list i 0 < limit
 
 -- numbers below the limit of a width fit it
-fit-each : (w : ℕ) (list : List ℕ) → Below (256 ^ w) list → Fitting (replicate (length list) w) list
+pub fit-each : (w : ℕ) (list : List ℕ) → Below (256 ^ w) list → Fitting (replicate (length list) w) list
 unfolding Fitting
 fit-each w [] f = tt
 fit-each w (x ∷ list) f = (f 0, fit-each w list (λ i. f (suc i)))
 
-below-every : (list : List ℕ) → every (λ (entry : ℕ). ltb entry entryLimit) list ≡ true → Below 4294967296 list
+pub below-every : (list : List ℕ) → every (λ (entry : ℕ). ltb entry entryLimit) list ≡ true → Below 4294967296 list
 below-every [] h zero = omega arith
 below-every [] h (suc i) = omega arith
 below-every (x ∷ list) h zero = ltb-true x 4294967296 (and-left (ltb x entryLimit) (every (λ (entry : ℕ). ltb entry entryLimit) list) h)

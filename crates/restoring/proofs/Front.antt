@@ -46,15 +46,15 @@ use Rattle.restoring.proofs.Steps.{clock-step, last-step, total-step}
 use Rattle.restoring.proofs.Mixed.{mixed, mixed-set, mixed-same, mixed-whole, length-mixed, each-mixed, first-taken}
 
 -- the lines are bytes
-clock-bytes : (v : Vector) → AllBytes (clockLine v)
+pub clock-bytes : (v : Vector) → AllBytes (clockLine v)
 unfolding clockLine
 clock-bytes v = all-bytes-line-of clock [] v
 
-last-bytes : (k : ℕ) (v : Vector) → AllBytes (lastLine k v)
+pub last-bytes : (k : ℕ) (v : Vector) → AllBytes (lastLine k v)
 unfolding lastLine
 last-bytes k v = all-bytes-line-of lastVector (k ∷ []) v
 
-total-bytes : (o : ℕ) (z : ℤ) → AllBytes (totalLine o z)
+pub total-bytes : (o : ℕ) (z : ℤ) → AllBytes (totalLine o z)
 unfolding totalLine
 total-bytes o z = all-bytes-line-of total (o ∷ totalWords z) []
 
@@ -81,7 +81,7 @@ other-back own k n = cases (leb k own)
     (λ e. let more : own < k = leb-false k own e in let last : suc (k - 1) ≡ k = omega arith in rw (e, le-ltb (k - 1) own (omega arith)) last)
 
 -- how many counters are among the first so many objects
-abbrev counters : List ℕ → ℕ → ℕ
+abbrev pub counters : List ℕ → ℕ → ℕ
 counters [] k = 0
 counters (kind ∷ kinds) zero = 0
 counters (kind ∷ kinds) (suc k) = cond (isCounter kind) (suc (counters kinds k)) (counters kinds k)
@@ -287,7 +287,7 @@ module _ (t : Table) (is : isTable t ≡ true) (rest : List ℕ) where
       let place : 0 + k ≡ k = omega arith in
       rw (ne-eqb p 0 (λ z. omega (arith, z)), ne-eqb p 1 (λ z. omega (arith, z, some)), lt-leb p size (omega arith), left, counter-found kinds 0 k, place) refl
 
-  next-total : (k : ℕ) → k < length kinds → is-counter k ≡ true → nextAfter size own kinds (counted k) ≡ next.Total k
+  pub next-total : (k : ℕ) → k < length kinds → is-counter k ≡ true → nextAfter size own kinds (counted k) ≡ next.Total k
   unfolding counterAt behindLasts kindIn
   next-total k b q = after-lasts k ∙ rw (drop-cons kinds k 0 b, q) refl
 

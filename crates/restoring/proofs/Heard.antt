@@ -1,12 +1,15 @@
 -- A line that is heard is the one spelling of its bytes, and what is read of it.
 use Prim.Native.Nat.{ℕ, zero, suc, _+_, _-_, _*_, _≤_, _<_}
 use mathlib.Core.Path.{_≡_, refl, sym, ap, _∙_}
-use mathlib.Core.Bool.{Bool, true, false, _&&_}
+use mathlib.Core.Bool.{Bool, true, false, _&&_, false≢true}
 use mathlib.Core.List.{List, [], _∷_, _++_}
 use native.Mathlib.Omega.{arith}
-use lib.Dec.{leb}
+use lib.Dec.{leb, ltb}
 use lib.ListN.{length, getD, take, drop, length-replicate, replicate}
 use lib.Seq.{take-at, drop-drop}
+use borrow.Author.Tests.{lt-ltb}
+use Rattle.meaning.specs.Tests.{every}
+use Rattle.meaning.specs.Order.{entryLimit}
 use Rattle.hexes.specs.Choice.{pick}
 use Rattle.hexes.specs.Hex.{hexLine}
 use Rattle.hexes.specs.Numbers.{AllBytes, bigEndian, numberFrom, numberOf}
@@ -81,6 +84,25 @@ four-small (a ∷ b ∷ c ∷ d ∷ e ∷ bs) h k = absurd (omega arith)
 
 word-small : (k : ℕ) (bs : List ℕ) → AllBytes bs → numberOf (take 4 (drop k bs)) < 4294967296
 word-small k bs h = four-small (take 4 (drop k bs)) (all-bytes-take 4 (drop k bs) (all-bytes-drop k bs h)) (length-take-most 4 (drop k bs))
+
+-- "N unsigned 32-bit entries"
+entries-small : (n : ℕ) (bs : List ℕ) → AllBytes bs → every (λ (entry : ℕ). ltb entry entryLimit) (read (replicate n 4) bs) ≡ true
+unfolding read
+entries-small zero bs h = refl
+entries-small (suc n) bs h = rw (lt-ltb (numberOf (take 4 bs)) entryLimit (word-small 0 bs h)) (entries-small n (drop 4 bs) (all-bytes-drop 4 bs h))
+
+small-by : (b : Bool) (stations : ℕ) (head found : List ℕ) → length found ≡ stations → every (λ (entry : ℕ). ltb entry entryLimit) found ≡ true →
+    let whole : Fields = record { ok = true; head = head; vector = found ++ replicate (16 - length found) 0 } in
+    pick b whole unread .ok ≡ true → every (λ (entry : ℕ). ltb entry entryLimit) (take stations (pick b whole unread .vector)) ≡ true
+small-by true stations head found long small e = rw (take-at found (replicate (16 - length found) 0) stations long) small
+small-by false stations head found long small e = absurd (false≢true e)
+
+pub vector-small : (type : Line) (stations : ℕ) (bytes : List ℕ) → AllBytes bytes → lineRead type stations bytes .ok ≡ true → every (λ (entry : ℕ). ltb entry entryLimit) (take stations (lineRead type stations bytes .vector)) ≡ true
+unfolding lineRead fieldsRead entries shapes.padded
+vector-small type stations bytes h =
+    let behind = drop (lengthOf (headOf type)) bytes in
+    small-by (leb stations mostStations && hasShape (type .typeByte) (sizeOf (headOf type) stations) bytes) stations (shapes.padded 6 (read (headOf type) bytes)) (read (replicate stations 4) behind)
+    (length-read (replicate stations 4) behind ∙ length-replicate stations 4) (entries-small stations behind (all-bytes-drop (lengthOf (headOf type)) bytes h))
 
 words-by : (b : Bool) (head vector : List ℕ) (i : ℕ) → getD head i 0 < 4294967296 →
     let whole : Fields = record { ok = true; head = head; vector = vector } in

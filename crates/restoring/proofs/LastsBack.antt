@@ -35,7 +35,7 @@ pub record LastsEnd (k : ℕ) (t : Table) (lines : List (List ℕ)) (after : Lis
   pub before : (i : ℕ) → i < k → getD (tableOf after .last) i [] ≡ getD (t .last) i []
   pub lines-are : lines ≡ map hexLine (linesOf (λ (station : ℕ). not (eqb station (t .header .own))) lastLine k (drop k (tableOf after .last)) ++ (totalLines (tableOf after) ++ rowLines (tableOf after)))
 
-next-other : (header : Header) → inRange header ≡ true → (k : ℕ) → k < header .size → (k ≡ header .own → ⊥) → nextAfter (header .size) (header .own) (header .kinds) (suc (suc (others (header .own) k))) ≡ next.Last (record { 0 = k })
+pub next-other : (header : Header) → inRange header ≡ true → (k : ℕ) → k < header .size → (k ≡ header .own → ⊥) → nextAfter (header .size) (header .own) (header .kinds) (suc (suc (others (header .own) k))) ≡ next.Last (record { 0 = k })
 unfolding opened
 next-other header range k b n = next-last (opened header) (opened-is-table header range) [] k b n
 

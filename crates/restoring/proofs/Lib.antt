@@ -14,3 +14,7 @@ pub mod RowsBack
 pub mod TotalsBack
 pub mod LastsBack
 pub mod OneForm
+pub mod Places
+pub mod Keeps
+pub mod EachRule
+pub mod Beginnings

@@ -3,7 +3,7 @@ use mathlib.Core.Path.{_≡_, refl, ap, _∙_}
 use mathlib.Core.Bool.{true, false}
 use mathlib.Core.Logic.{_⊎_, inl, inr}
 use mathlib.Core.List.{List, [], _∷_}
-use Prim.Native.Nat.{ℕ}
+use Prim.Native.Nat.{ℕ, _≤_}
 use native.Mathlib.Omega.{arith}
 use lib.Dec.{eqb}
 use lib.ListN.{length, drop, length-drop}
@@ -23,7 +23,7 @@ use Rattle.lines.proofs.Longest.{opening-size}
 use Rattle.heard.specs.Hearing.{bytesOf, typeOf}
 use Rattle.formlines.specs.FormLines.{openingLine}
 use Rattle.spoken.specs.Spoken.{headerRead, openedAs, openedBy}
-use Rattle.spoken.proofs.Opening.{open-ranges}
+use Rattle.spoken.proofs.Opening.{open-ranges, open-room}
 use Rattle.taking.specs.declared.Loaded.{Loaded}
 use Rattle.loading.specs.Loading.{begun, firstTaken, loadedBy, underLoad}
 use Rattle.restoring.proofs.Under.{Fresh}
@@ -61,7 +61,7 @@ module _ (line words : List ℕ) (idle : underLoad words ≡ false) where
   unfolding loadedBy
   first = rw idle refl
 
-  pub opening-back : (refused (loadedBy line words .0) ≡ true) ⊎ Took line words openingLine opened 1 kept
+  pub opening-back : (refused (loadedBy line words .0) ≡ true) ⊎ Took line words openingLine opened (λ (h : Header). (inRange h ≡ true) × (kept ≡ drop (spaceFor (h .size) (h .capacity)) words) × (spaceFor (h .size) (h .capacity) ≤ length words)) 1 kept
   unfolding firstTaken begun openedBy openedAs meaning.openTable opened
   opening-back = cases (eqb (typeOf line) 16)
       (λ type. cases (openingRead bytes .ok)
@@ -70,6 +70,7 @@ module _ (line words : List ℕ) (idle : underLoad words ≡ false) where
         what = header;
         line-is = line-is ok;
         fresh = fresh-of header (open-ranges words (spaceFor (header .size) (header .capacity)) header refusal refl (eqb-true refusal 0 none));
+        kept = (open-ranges words (spaceFor (header .size) (header .capacity)) header refusal refl (eqb-true refusal 0 none), refl, open-room words (spaceFor (header .size) (header .capacity)) header refusal refl (eqb-true refusal 0 none));
         next-is = first ∙ rw (type, ok, none) refl;
       }))
       (λ some. inl (ap (λ (o : Loaded × List ℕ). refused (o .0)) first ∙ rw (type, ok, some) refl)))

@@ -74,13 +74,25 @@ member : (a : List Row) (r : Row) (b : List Row) → List·Memᴰ r (a ++ (r ∷
 member [] r b = List·Memᴰ·head refl
 member (q ∷ a) r b = List·Memᴰ·tail (member a r b)
 
-map-append : {A B : Type 0} (f : A → B) (a b : List A) → map f (a ++ b) ≡ map f a ++ map f b
+pub map-append : {A B : Type 0} (f : A → B) (a b : List A) → map f (a ++ b) ≡ map f a ++ map f b
 map-append f [] b = refl
 map-append {B = B} f (x ∷ a) b = ap (λ (l : List B). f x ∷ l) (map-append f a b)
 
 every-first : (p : Row → Bool) (a : List Row) (r : Row) (b : List Row) → every p (a ++ (r ∷ b)) ≡ true → p r ≡ true
 every-first p [] r b e = and-left (p r) (every p b) e
 every-first p (q ∷ a) r b e = every-first p a r b (and-right (p q) (every p (a ++ (r ∷ b))) e)
+
+-- rows of the right shape, written and read back
+pub readable : (size : ℕ) (rows : List Row) → Each (Shaped size) rows → Each (Readable size) (map (rowWords size) rows)
+readable size [] e = tt
+readable size (r ∷ rows) e = (record { long = omega arith; low = omega arith; written = ap (rowWords size) (row-read size r (e .0)) }, readable size rows (e .1))
+
+back-each : (size : ℕ) (rows : List Row) → Each (Shaped size) rows → Each (λ (r : Row). rowOf (rowWords size r) ≡ r) rows
+back-each size [] e = tt
+back-each size (r ∷ rows) e = (row-read size r (e .0), back-each size rows (e .1))
+
+pub rows-back : (size : ℕ) (rows : List Row) → Each (Shaped size) rows → map rowOf (map (rowWords size) rows) ≡ rows
+rows-back size rows e = map-back (rowWords size) rowOf rows (back-each size rows e)
 
 -- the lines are bytes
 row-bytes : (n : ℕ) (r : Row) → AllBytes (rowLine n r)
@@ -92,7 +104,7 @@ unfolding closingLine
 closing-bytes n = all-bytes-line-of closing _ _
 
 -- a line of another type has no row's shape
-no-shape : (widths : List ℕ) (stations : ℕ) (bytes : List ℕ) → startsWith 83 bytes ≡ false → fieldsRead 83 widths stations bytes .ok ≡ false
+pub no-shape : (widths : List ℕ) (stations : ℕ) (bytes : List ℕ) → startsWith 83 bytes ≡ false → fieldsRead 83 widths stations bytes .ok ≡ false
 unfolding fieldsRead hasShape
 no-shape widths stations bytes e = rw e (by (leb stations 16) (eqb (length bytes) (sizeOf widths stations)))
   where
@@ -101,7 +113,7 @@ no-shape widths stations bytes e = rw e (by (leb stations 16) (eqb (length bytes
     by true false = refl
     by false b = refl
 
-closing-first : (n : ℕ) → startsWith 83 (closingLine n) ≡ false
+pub closing-first : (n : ℕ) → startsWith 83 (closingLine n) ≡ false
 unfolding closingLine lineBytes written bigEndian startsWith
 closing-first n = refl
 
@@ -129,19 +141,11 @@ module _ (t : Table) (is : isTable t ≡ true) (rest : List ℕ) where
       (each-front (Shaped size) done left (subst (Each (Shaped size)) (sym e) (W .shape)))
       (omega (arith, ap (λ (l : List Row). length l) e, length-append done left, F .within))
 
-  readable : (rows : List Row) → Each (Shaped size) rows → Each (Readable size) (map (rowWords size) rows)
-  readable [] e = tt
-  readable (r ∷ rows) e = (record { long = omega arith; low = omega arith; written = ap (rowWords size) (row-read size r (e .0)) }, readable rows (e .1))
-
-  back-each : (rows : List Row) → Each (Shaped size) rows → Each (λ (r : Row). rowOf (rowWords size r) ≡ r) rows
-  back-each [] e = tt
-  back-each (r ∷ rows) e = (row-read size r (e .0), back-each rows (e .1))
-
   rows-chained : chained (follows (t .header .kinds)) (map (rowWords size) (t .rows)) ≡ true
   unfolding kindIn
   rows-chained =
-      let back : map rowOf (map (rowWords size) (t .rows)) ≡ t .rows = map-back (rowWords size) rowOf (t .rows) (back-each (t .rows) (W .shape)) in
-      sorted-chain size (t .header .kinds) (map (rowWords size) (t .rows)) (readable (t .rows) (W .shape)) (rw back (F .sorted)) (rw back (F .one-row))
+      let back : map rowOf (map (rowWords size) (t .rows)) ≡ t .rows = rows-back size (t .rows) (W .shape) in
+      sorted-chain size (t .header .kinds) (map (rowWords size) (t .rows)) (readable size (t .rows) (W .shape)) (rw back (F .sorted)) (rw back (F .one-row))
 
   every-row : every (rowRule t) (t .rows) ≡ true
   unfolding isTable tableRules
@@ -179,11 +183,11 @@ module _ (t : Table) (is : isTable t ≡ true) (rest : List ℕ) where
   unfolding rowRead lineRead
   closing-is-no-row = no-shape (headOf row) size (closingLine (length (t .rows))) (closing-first (length (t .rows)))
 
-  pub closing-loads : loadedBy (hexLine (closingLine (length (t .rows)))) (under progress t rest) ≡ (loaded.Table, wordsOf t ++ rest)
-  closing-loads =
+  pub closing-at : (p : ℕ) → nextAfter size (t .header .own) (t .header .kinds) p ≡ next.Rows → loadedBy (hexLine (closingLine (length (t .rows)))) (under p t rest) ≡ (loaded.Table, wordsOf t ++ rest)
+  closing-at p c =
       let line = closingLine (length (t .rows)) in
       let heard : bytesOf (hexLine line) ≡ line = bytes-back line (replicate 261 0) (closing-bytes (length (t .rows))) (length-replicate {A = ℕ} 261 0) (omega (arith, closing-short t is)) in
-      close-step t fresh-whole rest progress (hexLine line) (next-rows t is rest) (rw heard closing-is-no-row) (ap closingRead heard ∙ closing-back t is) is
+      close-step t fresh-whole rest p (hexLine line) c (rw heard closing-is-no-row) (ap closingRead heard ∙ closing-back t is) is
 
 -- `10`
 opening-type : (header : Header) → typeOf (hexLine (openingLine header)) ≡ 16
@@ -236,7 +240,7 @@ module _ (t : Table) (is : isTable t ≡ true) (space : List ℕ) (no-load : und
       (then-taken L (T ++ R) (under 2 (lasts-at t is beyond 0) beyond) (behind-lasts t is beyond) (under (progress t is beyond) t beyond) (lasts-taken t is beyond)
       (then-taken T R (behind-lasts t is beyond) (behind-totals t is beyond) (under (progress t is beyond) t beyond) (totals-taken t is beyond) (rows-taken t is beyond)))) in
       let form : map hexLine (savedForm t) ≡ front ++ (end ∷ []) = spelt in
-      subst (λ (l : List (List ℕ)). loads l space (wordsOf t ++ beyond)) (sym form) (then-closed front end space (under (progress t is beyond) t beyond) (wordsOf t ++ beyond) all (closing-loads t is beyond))
+      subst (λ (l : List (List ℕ)). loads l space (wordsOf t ++ beyond)) (sym form) (then-closed front end space (under (progress t is beyond) t beyond) (wordsOf t ++ beyond) all (closing-at t is beyond (progress t is beyond) (next-rows t is beyond)))
     where
       spelt : map hexLine (savedForm t) ≡ (line ∷ hexLine (clockLine (t .clock)) ∷ (map hexLine (lastLines t) ++ (map hexLine (totalLines t) ++ map hexLine (map (rowLine (t .header .size)) (t .rows))))) ++ (hexLine (closingLine (length (t .rows))) ∷ [])
       spelt =

@@ -103,6 +103,12 @@ one-test true true c x y = refl
 one-test true false c x y = refl
 one-test false b c x y = refl
 
+-- what a row keeps that joins: its own rules, and the order behind the last
+abbrev pub RowRules : Table → Row → Type 0
+RowRules t r =
+    (rowKept (t .header .kinds) (t .clock) (rowWords (t .header .size) r) ≡ true)
+    × (0 < length (t .rows) → follows (t .header .kinds) (getD (map (rowWords (t .header .size)) (t .rows)) (length (t .rows) - 1) []) (rowWords (t .header .size) r) ≡ true)
+
 -- what a closing line that was taken leaves
 pub record Closed (line : List ℕ) (t : Table) (rest : List ℕ) (p : ℕ) : Type 0 where
   pub line-is : line ≡ hexLine (closingLine (length (t .rows)))
@@ -160,7 +166,7 @@ module _ (t : Table) (F : Fresh t) (rest : List ℕ) (p : ℕ) (line : List ℕ)
         ),
       )
 
-  row-taken : rowRead size bytes .ok ≡ true → length (take size (rowRead size bytes .vector)) ≡ size → rowRead size bytes .settled ≤ 1 → joins space (rowSaid size (rowRead size bytes)) ≡ true → Took line space (rowLine size) (λ (r : Row). withRows t (t .rows ++ (r ∷ []))) p rest
+  row-taken : rowRead size bytes .ok ≡ true → length (take size (rowRead size bytes .vector)) ≡ size → rowRead size bytes .settled ≤ 1 → joins space (rowSaid size (rowRead size bytes)) ≡ true → Took line space (rowLine size) (λ (r : Row). withRows t (t .rows ++ (r ∷ []))) (RowRules t) p rest
   unfolding rowLine rowRead
   row-taken ok long flag join =
       let f = rowRead size bytes in
@@ -177,6 +183,7 @@ module _ (t : Table) (F : Fresh t) (rest : List ℕ) (p : ℕ) (line : List ℕ)
             ∙ ap (λ (g : saved.Row). hexLine (lineOf row (g .object ∷ g .code ∷ g .settled ∷ g .sender ∷ g .value ∷ []) (take size (g .vector)))) e
             ∙ ap (λ (l : List ℕ). hexLine (lineOf row (r .operation .object ∷ r .operation .code ∷ cond (r .settled) 1 0 ∷ r .operation .sender ∷ r .operation .value ∷ []) l)) (front-of (words.padded size (r .operation .vector)) size (length-padded size (r .operation .vector) few));
         fresh = fresh-row t F r (row-shaped size f long small flag kinds (t .clock) (J .1 .0)) (J .0);
+        kept = (rw spelt (J .1 .0), λ some. rw spelt (J .1 .1 some));
         next-is = row-step t F rest p line c r few (row-low size f long small flag kinds (t .clock) (J .1 .0)) (J .0) (rw spelt (J .1 .0)) (λ some. rw spelt (J .1 .1 some)) e;
       }
 
@@ -191,7 +198,7 @@ module _ (t : Table) (F : Fresh t) (rest : List ℕ) (p : ℕ) (line : List ℕ)
   unfolding takenAs rowOrClosing rowTaken joining.joined wordsOf
   row-answered ok = by-rows t F rest p line c ∙ ap (λ (b : Bool). pick b (rowAnswer (rowRead size bytes)) (closed bytes space)) ok
 
-  pub row-back : rowRead size bytes .ok ≡ true → (refused (loadedBy line space .0) ≡ true) ⊎ Took line space (rowLine size) (λ (r : Row). withRows t (t .rows ++ (r ∷ []))) p rest
+  pub row-back : rowRead size bytes .ok ≡ true → (refused (loadedBy line space .0) ≡ true) ⊎ Took line space (rowLine size) (λ (r : Row). withRows t (t .rows ++ (r ∷ []))) (RowRules t) p rest
   unfolding spoilt
   row-back ok =
       let f = rowRead size bytes in

@@ -10,7 +10,8 @@ use lib.IntN.{ℤ}
 use lib.ListN.{getD, length, take, set, length-set, length-append}
 use lib.Seq.{length-take-le}
 use borrow.Author.Tests.{eq-eqb, eqb-true, ltb-true, ltb-false}
-use Rattle.meaning.specs.Order.{Vector}
+use Rattle.meaning.specs.Tests.{every}
+use Rattle.meaning.specs.Order.{Vector, entryLimit}
 use Rattle.meaning.specs.Rows.{Row}
 use Rattle.meaning.specs.Table.{Table, totalBound}
 use Rattle.meaning.specs.Calls.{withRows}
@@ -40,7 +41,7 @@ use Rattle.loading.specs.Loading.{loadedBy, nextAfter, takenAs, waits}
 use Rattle.restoring.specs.Restoring.{loads}
 use Rattle.restoring.proofs.Under.{Fresh, under, size-is, own-is, kinds-are, clock-is, taken-by}
 use Rattle.restoring.proofs.Steps.{clock-step, last-step, total-step}
-use Rattle.restoring.proofs.Heard.{heard-bytes, high-small, line-said, low-small, vector-padded}
+use Rattle.restoring.proofs.Heard.{heard-bytes, high-small, line-said, low-small, vector-padded, vector-small}
 
 abbrev pub refused : Loaded → Bool
 refused (loaded.Refused number) = true
@@ -52,11 +53,12 @@ isTaken loaded.Taken = true
 isTaken (loaded.Refused number) = false
 isTaken loaded.Table = false
 
--- a line that was taken: what it says, its spelling, and the record that it makes
-pub record Took {A : Type 0} (line words : List ℕ) (spell : A → List ℕ) (make : A → Table) (p : ℕ) (rest : List ℕ) : Type 0 where
+-- a line that was taken: what it says, its spelling, the record that it makes, and the rules that it keeps
+pub record Took {A : Type 0} (line words : List ℕ) (spell : A → List ℕ) (make : A → Table) (keeps : A → Type 0) (p : ℕ) (rest : List ℕ) : Type 0 where
   pub what : A
   pub line-is : line ≡ hexLine (spell what)
   pub fresh : Fresh (make what)
+  pub kept : keeps what
   pub next-is : loadedBy line words ≡ (loaded.Taken, under p (make what) rest)
 
 -- the same, with the lines behind it
@@ -67,8 +69,8 @@ pub record Gone {A : Type 0} (line : List ℕ) (lines : List (List ℕ)) (spell 
   pub more : loads lines (under p (make what) rest) after
 
 -- a line of a form that loads is not refused
-pub goes-on : {A : Type 0} (line : List ℕ) (lines : List (List ℕ)) (words : List ℕ) (spell : A → List ℕ) (make : A → Table) (p : ℕ) (rest after : List ℕ)
-    → (refused (loadedBy line words .0) ≡ true) ⊎ Took line words spell make p rest → loads (line ∷ lines) words after → Gone line lines spell make p rest after
+pub goes-on : {A : Type 0} {keeps : A → Type 0} (line : List ℕ) (lines : List (List ℕ)) (words : List ℕ) (spell : A → List ℕ) (make : A → Table) (p : ℕ) (rest after : List ℕ)
+    → (refused (loadedBy line words .0) ≡ true) ⊎ Took line words spell make keeps p rest → loads (line ∷ lines) words after → Gone line lines spell make p rest after
 goes-on line [] words spell make p rest after (inl e) h = absurd (false≢true (sym (ap (λ (o : Loaded × List ℕ). refused (o .0)) h) ∙ e))
 goes-on line (second ∷ lines) words spell make p rest after (inl e) h = absurd (false≢true (sym (ap refused (h .0)) ∙ e))
 goes-on line [] words spell make p rest after (inr T) h = absurd (false≢true (ap (λ (o : Loaded × List ℕ). isTaken (o .0)) (sym h ∙ T .next-is)))
@@ -162,7 +164,7 @@ module _ (t : Table) (F : Fresh t) (rest : List ℕ) (p : ℕ) (line : List ℕ)
   no-rows = eq-eqb (length (t .rows)) 0 none
 
   -- `50`
-  pub clock-back : nextAfter size (t .header .own) (t .header .kinds) p ≡ next.Clock → (refused (loadedBy line words .0) ≡ true) ⊎ Took line words clockLine (withClock t) (suc p) rest
+  pub clock-back : nextAfter size (t .header .own) (t .header .kinds) p ≡ next.Clock → (refused (loadedBy line words .0) ≡ true) ⊎ Took line words clockLine (withClock t) (λ (v : Vector). every (λ (entry : ℕ). ltb entry entryLimit) v ≡ true) (suc p) rest
   unfolding takenAs clockTaken waits clockLine clockRead spoilt
   clock-back c =
       let f = clockRead size bytes in
@@ -173,12 +175,13 @@ module _ (t : Table) (F : Fresh t) (rest : List ℕ) (p : ℕ) (line : List ℕ)
         what = v;
         line-is = line-said clock [] v line (clock-only-spelling bytes (heard-bytes line) size ok);
         fresh = fresh-clock t F v long;
+        kept = vector-small clock size bytes (heard-bytes line) ok;
         next-is = clock-step t F rest p line none c v long (ap₂ (λ (b : Bool) (u : Vector). record { ok = b; vector = u }) ok (vector-padded clock size bytes ok));
       }))
       (λ bad. inl (ap (λ (o : Loaded × List ℕ). refused (o .0)) (taken-by t F rest p line next.Clock c no-rows) ∙ rw (size-is t F rest p, bad) refl))
 
   -- `51`
-  pub last-back : (k : ℕ) → k < size → nextAfter size (t .header .own) (t .header .kinds) p ≡ next.Last (record { 0 = k }) → (refused (loadedBy line words .0) ≡ true) ⊎ Took line words (lastLine k) (λ (v : Vector). withLast t (set (t .last) k v)) (suc p) rest
+  pub last-back : (k : ℕ) → k < size → nextAfter size (t .header .own) (t .header .kinds) p ≡ next.Last (record { 0 = k }) → (refused (loadedBy line words .0) ≡ true) ⊎ Took line words (lastLine k) (λ (v : Vector). withLast t (set (t .last) k v)) (λ (v : Vector). lastKept (t .header .own) (t .clock) k v ≡ true) (suc p) rest
   unfolding takenAs lastTaken waits lastLine lastRead spoilt wordsOf
   last-back k b c =
       let f = lastRead size bytes in
@@ -193,12 +196,13 @@ module _ (t : Table) (F : Fresh t) (rest : List ℕ) (p : ℕ) (line : List ℕ)
         what = v;
         line-is = line-said lastVector (f .station ∷ []) v line (last-only-spelling bytes (heard-bytes line) size ok) ∙ ap (λ (i : ℕ). hexLine (lineOf lastVector (i ∷ []) v)) same;
         fresh = fresh-last t F k v long;
+        kept = and-right (eqb (f .station) k) kept both;
         next-is = last-step t F rest p line none k b c v long (and-right (eqb (f .station) k) kept both) (ap (λ (g : Bool). record { ok = g; station = f .station; vector = f .vector }) ok ∙ ap₂ (λ (i : ℕ) (u : Vector). record { ok = true; station = i; vector = u }) same (vector-padded lastVector size bytes ok));
       }))
       (λ bad. inl (ap (λ (o : Loaded × List ℕ). refused (o .0)) (taken-by t F rest p line (next.Last (record { 0 = k })) c no-rows) ∙ rw (size-is t F rest p, own-is t F rest p, clock-is t F rest p, bad) refl))
 
   -- `52`
-  pub total-back : (o : ℕ) → o < length (t .header .kinds) → nextAfter size (t .header .own) (t .header .kinds) p ≡ next.Total o → (refused (loadedBy line words .0) ≡ true) ⊎ Took line words (totalLine o) (λ (z : ℤ). withTotals t (set (t .totals) o z)) (suc p) rest
+  pub total-back : (o : ℕ) → o < length (t .header .kinds) → nextAfter size (t .header .own) (t .header .kinds) p ≡ next.Total o → (refused (loadedBy line words .0) ≡ true) ⊎ Took line words (totalLine o) (λ (z : ℤ). withTotals t (set (t .totals) o z)) (λ (z : ℤ). totalKept (totalBound (t .clock)) (getD (t .header .kinds) o 0) z ≡ true) (suc p) rest
   unfolding takenAs totalTaken waits totalLine totalRead spoilt
   total-back o b c =
       let f = totalRead bytes in
@@ -218,6 +222,7 @@ module _ (t : Table) (F : Fresh t) (rest : List ℕ) (p : ℕ) (line : List ℕ)
         what = z;
         line-is = line-said total (f .object ∷ f .high ∷ f .low ∷ []) [] line (total-only-spelling bytes (heard-bytes line) ok) ∙ rw (same, high-is, low-is) refl;
         fresh = fresh-total t F o z range;
+        kept = and-right (eqb (f .object) o) kept both;
         next-is = total-step t F rest p line none o b c z range (and-right (eqb (f .object) o) kept both) (rw (ok, same, high-is, low-is) refl);
       }))
       (λ bad. inl (ap (λ (o : Loaded × List ℕ). refused (o .0)) (taken-by t F rest p line (next.Total o) c no-rows) ∙ rw (kinds-are t F rest p, clock-is t F rest p, bad) refl))

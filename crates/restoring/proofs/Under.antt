@@ -1,5 +1,5 @@
 -- A space under load: a table record written in it, and how far the load has come.
-use mathlib.Core.Path.{_≡_, refl, sym, ap, _∙_}
+use mathlib.Core.Path.{_≡_, refl, sym, ap, ap₂, _∙_, subst}
 use mathlib.Core.Bool.{Bool, true, _&&_}
 use mathlib.Core.List.{List, [], _∷_, _++_}
 use Prim.Native.Nat.{ℕ, suc, _+_, _≤_, _<_}
@@ -25,6 +25,7 @@ use Rattle.loading.specs.declared.Next.{Next}
 use Rattle.loading.specs.declared.Next.the-variants as next
 use Rattle.taking.specs.Taking.{progressIn, took}
 use Rattle.loading.specs.Loading.{headLoads, loadWaits, loadedBy, nextAfter, nextIn, takenAs, underLoad, waits}
+use Rattle.loading.proofs.Nexts.{load-object, load-station, load-waits}
 use Rattle.restoring.proofs.Setting.{paste-set, set-set}
 
 -- what is written of a table with sizes in range
@@ -126,6 +127,17 @@ module _ (t : Table) (F : Fresh t) (rest : List ℕ) (p : ℕ) where
   pub taken-by : (line : List ℕ) (n : Next) → coming ≡ n → waits n (length (t .rows)) ≡ true → loadedBy line words ≡ takenAs n (bytesOf line) words
   unfolding loadedBy
   taken-by line n e h = rw (is-under (rw e h), next-is, e) refl
+
+  -- what comes next where a load is under way
+  module _ (u : underLoad words ≡ true) where
+    pub waiting : (n : Next) → coming ≡ n → waits n (length (t .rows)) ≡ true
+    waiting n c = ap₂ waits (sym (next-is ∙ c)) (sym count-is) ∙ load-waits words u
+
+    pub station-in : (k : ℕ) → coming ≡ next.Last (record { 0 = k }) → k < t .header .size
+    station-in k c = subst (λ (n : ℕ). k < n) size-is (load-station words u (next.Last (record { 0 = k })) (sym (next-is ∙ c)) (record { 0 = k }) refl)
+
+    pub object-in : (o : ℕ) → coming ≡ next.Total o → o < length (t .header .kinds)
+    object-in o c = subst (λ (n : ℕ). o < n) objects-are (load-object words u (next.Total o) (sym (next-is ∙ c)) o refl)
 
   -- new words at a place that make another record of it
   pub took-as : (at : ℕ) (new : List ℕ) (u : Table) → 6 < at → at ≤ length plain → paste plain at new (length new) ≡ rewritten plain u → took words at new ≡ (loaded.Taken, under (suc p) u rest)
