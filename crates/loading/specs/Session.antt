@@ -1,4 +1,4 @@
--- The definition computed on lines written as texts: forms that load, and for each rule that a line can break a line that breaks it, beside one that keeps it.
+-- The definition computed on lines written as texts: forms that load, and for each rule that a line can break lines that break it, beside lines that keep it.
 use mathlib.Core.Path.{_≡_, refl}
 use mathlib.Core.List.{List, [], _∷_, _++_, map}
 use Prim.Native.Nat.{ℕ}
@@ -10,9 +10,8 @@ use Rattle.meaning.specs.Rows.{settledRow}
 use Rattle.meaning.specs.Table.{Table}
 use Rattle.meaning.specs.Papers.{sessionSaved}
 use Rattle.hexes.specs.Decoding.{isLine, justLf, pairOf, pairs}
-use Rattle.hexes.specs.Hex.{digitOf, isDigit, valueOf}
+use Rattle.hexes.specs.Hex.{isDigit, valueOf}
 use Rattle.hexes.specs.Numbers.{numberFrom}
-use Rattle.shapes.specs.Places.{atEnd, byteAt, fourAt}
 use Rattle.shapes.specs.Reading.{entries, fieldsRead, hasShape, padded, startsWith}
 use Rattle.shapes.specs.Shapes.{lengthOf, read}
 use Rattle.lines.specs.Named.{openingRead}
@@ -33,7 +32,7 @@ use Rattle.loading.specs.Loading.{begun, behindLasts, firstTaken, headLo
 use Rattle.taking.specs.declared.Loaded.{Loaded}
 use Rattle.taking.specs.declared.Loaded.the-variants as loaded
 
--- A space for N = 2 and four rows, and what it happens to hold.
+-- A space for N = 2 and four rows, with something in every word.
 abbrev pub space : List ℕ
 space = replicate (spaceFor 2 4) 9
 
@@ -58,7 +57,7 @@ wrong words = (loaded.Refused 15, replicate (length words) 0)
 abbrev pub unbegun : ℕ → List ℕ → Loaded × List ℕ
 unbegun number words = (loaded.Refused number, words)
 
--- Taken, or taken as the closing line: here it is not looked what is written then.
+-- Taken, and taken as the closing line: what is then written the forms that load show.
 abbrev pub taken : List ℕ → Loaded × List ℕ
 taken words = (loaded.Taken, [])
 
@@ -76,7 +75,7 @@ Right words cases = map (λ (c : Case). seen (loadedBy (c .given) words)) cases 
 
 -- Which definitions are computed with; a group has no meaning of its own.
 unfoldable pub lineWords : ℕ
-unfolding pairOf pairs justLf isLine valueOf digitOf isDigit numberFrom byteAt fourAt atEnd padded entries startsWith hasShape fieldsRead lengthOf read openingRead isOf lineRead clockRead lastRead totalRead rowRead closingRead bytesOf typeOf characters lineSaying
+unfolding pairOf pairs justLf isLine valueOf isDigit numberFrom padded entries startsWith hasShape fieldsRead lengthOf read openingRead isOf lineRead clockRead lastRead totalRead rowRead closingRead bytesOf typeOf characters lineSaying
 lineWords = 0
 
 unfoldable pub wordWords : ℕ
@@ -364,16 +363,6 @@ afterAdd =
 abbrev pub twoSets : List String
 twoSets = "1002000002020908" ∷ "500000000200000002" ∷ "51010000000000000002" ∷ []
 
--- What each of these lines gets behind a row, and leaves.
-abbrev pub behind : String → List String → List (Loaded × List ℕ)
-behind first lines = map (λ (line : String). seen (loadedBy (lineSaying line) (after (twoSets ++ (first ∷ []))))) lines
-
--- The second row may stand behind the first; the first behind the second, and each behind itself, may not.
-abbrev pub InOrder : String → String → Type 0
-InOrder first second =
-    behind first (second ∷ first ∷ []) ++ behind second (first ∷ second ∷ [])
-    ≡ taken space ∷ wrong space ∷ wrong space ∷ wrong space ∷ []
-
 -- The tag of a row in kind 8.
 abbrev pub tags : List Case
 tags =
@@ -401,6 +390,16 @@ tags =
     ∷ (lineSaying "530101000000000007000000010000000000000000" gets wrong)
     ∷ []
 
+-- What each of these lines gets behind a row, and leaves.
+abbrev pub behind : String → List String → List (Loaded × List ℕ)
+behind first lines = map (λ (line : String). seen (loadedBy (lineSaying line) (after (twoSets ++ (first ∷ []))))) lines
+
+-- The second row may stand behind the first; the first behind the second, and each behind itself, may not.
+abbrev pub InOrder : String → String → Type 0
+InOrder first second =
+    behind first (second ∷ first ∷ []) ++ behind second (first ∷ second ∷ [])
+    ≡ taken space ∷ wrong space ∷ wrong space ∷ wrong space ∷ []
+
 -- "rows in strict order": a row of the same sender and number is equal, whatever its other entries.
 abbrev pub sameKey : List Case
 sameKey =
@@ -423,6 +422,9 @@ oneRow =
     ∷ (lineSaying "5f01" gets wrong)
     ∷ (lineSaying "5f000001" gets wrong)
     ∷ (lineSaying "5f" gets wrong)
+    -- "lower case, each line ended by one LF"
+    ∷ (lineSaying "5F0001" gets wrong)
+    ∷ (characters "5f0001" gets wrong)
     -- "a second `10` too", what came before, what is not due, and what is in no form
     ∷ (lineSaying "10010000020109" gets wrong)
     ∷ (lineSaying "5000000002" gets wrong)
