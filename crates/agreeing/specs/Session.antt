@@ -1,16 +1,15 @@
 -- The definitions computed: 01's session, and the lines that it has none of.
 use mathlib.Core.Path.{_≡_, refl}
-use mathlib.Core.List.{List, [], _∷_, _++_, map}
+use mathlib.Core.List.{List, [], _∷_, map}
 use Prim.Native.Nat.{ℕ, zero, suc}
-use Prim.Native.Char.{code}
-use Prim.Native.String.{String, [] as end, _∷_ as _then_}
+use Prim.Native.String.{String}
 use Rattle.meaning.specs.Table.{kindIn, zeros}
 use Rattle.meaning.specs.Computing.{allWords}
 use Rattle.meaning.specs.Operations.{isCounter}
 use Rattle.meaning.specs.Papers.{sessionSaved}
 use Rattle.layout.specs.Words.{complement, ofComplement}
 use Rattle.layout.specs.Layout.{holdsTable, isSpelt, rewritten, spaceFor, tableOf, wordsOf}
-use Rattle.hexes.specs.Hex.{digitOf, digitsOf, hexLine, isDigit, lf, valueOf}
+use Rattle.hexes.specs.Hex.{digitOf, digitsOf, hexLine, isDigit, valueOf}
 use Rattle.hexes.specs.Numbers.{bigEndian, numberFrom}
 use Rattle.hexes.specs.Decoding.{isLine, justLf, pairOf, pairs}
 use Rattle.shapes.specs.Shapes.{lengthOf, read, written}
@@ -18,27 +17,19 @@ use Rattle.shapes.specs.Reading.{entries, fieldsRead, hasShape, padded, startsW
 use Rattle.writing.specs.Writing.{lineBytes, writtenEach}
 use Rattle.lines.specs.Types.{isOf, lineRead}
 use Rattle.lines.specs.Named.{issueRead, openingRead, operationRead, questionRead, settlingRead}
-use Rattle.heard.specs.Hearing.{bytesOf}
+use Rattle.heard.specs.Hearing.{bytesOf, typeOf}
+use Rattle.heard.specs.Text.{characters, lineSaying}
 use Rattle.formlines.specs.FormLines.{closingLine, clockLine, lastLine, openingLine, rowLine, totalLine}
 use Rattle.forms.specs.Forms.{lastLines, rowLines, savedForm, totalLines}
 use Rattle.telling.specs.Telling.{listBytes, refusalBytes, replyBytes}
 use Rattle.spoken.specs.Spoken.{frameBytes, frameOf, headerRead, localOf, openedAs, openedBy, receivedAs, receivedOn, settledAs, settledOn}
 use Rattle.answering.specs.Answering.{answerOn, doneBytes, issueAnswer, issuedBytes, openedBytes, questionAnswer, receivedBytes, secondOpening, settledBytes}
-use Rattle.heard.specs.Hearing.{typeOf}
 use lib.ListN.{length, take}
 use Rattle.calls.specs.declared.Answered.{Answered}
 use Rattle.calls.specs.declared.Answered.the-variants as answered
 use Rattle.lines.specs.Named.{printingRead}
 use Rattle.calls.specs.Answers.{answerOf, answeredBy, linesFor, longestAnswer, printedAt, spaceAfter}
 use Rattle.agreeing.specs.Lines.{linesAfter}
-
--- The characters of a text, and its line.
-unfoldable pub characters : String → List ℕ
-characters end = []
-characters (first then rest) = code first ∷ characters rest
-
-unfoldable pub lineSaying : String → List ℕ
-lineSaying text = characters text ++ (lf ∷ [])
 
 -- What is printed for these lines, given one after the other, the first first: for each its output lines.
 unfoldable pub printedFor : List (List ℕ) → List ℕ → List (List (List ℕ))
