@@ -247,8 +247,8 @@ some-closed [] line space words idle e h =
     absurd (no-first-closes (loadedBy line space .0) (opening-back line space idle) (λ T. ap (λ (o : Loaded × List ℕ). o .0) (T .next-is)) (ap (λ (w : List ℕ). loadedBy line w .0) e ∙ h))
 some-closed (first ∷ lines) line space words idle taken h = closed-in first lines space words line idle taken h
 
--- "Each table rule that a line can break is refused at that line with 15": behind lines that were all taken by a space with no load under way, a line is
--- taken exactly when some table by the rules saves a form that begins with them all, and closes the load exactly when some table saves them all.
+-- 15 is for "a saved line that is misplaced, misshapen or breaks a table rule": behind lines that were all taken by a space with no load under way, a line
+-- is taken exactly when some table by the rules saves a form that begins with them all, and closes the load exactly when some table saves them all.
 pub each-rule-at-its-line : (lines : List (List ℕ)) (space words line : List ℕ) → underLoad space ≡ false → takesAll lines space words → ByItsForm space lines line words
 each-rule-at-its-line lines space words line idle taken =
     let next = loadedBy line words .1 in
@@ -263,7 +263,7 @@ each-rule-at-its-line lines space words line idle taken =
           ap (λ (w : List ℕ). loadedBy line w .0) (takes-one lines space words (P .0) taken (P .1)) ∙ ap (λ (o : Loaded × List ℕ). o .0) (P .2);
     }
 
--- And the number is 15, with zeros in every word: neither is any table's form, or the beginning of one, with that line behind those that were taken.
+-- And the number is 15, with zeros in every word, where the lines with that one behind them are no form and begin none.
 pub wrong-at-once : (first : List ℕ) (lines : List (List ℕ)) (space words line : List ℕ) → underLoad space ≡ false → takesAll (first ∷ lines) space words
     → (BeginsForm (length space) ((first ∷ lines) ++ (line ∷ [])) → ⊥) → (IsForm (length space) ((first ∷ lines) ++ (line ∷ [])) → ⊥) → loadedBy line words ≡ spoilt words
 unfolding spoilt

@@ -1,4 +1,4 @@
--- "Each table rule that a line can break is refused at that line": when the closing line comes, none is left that could be broken.
+-- 15 is for "a saved line that ... breaks a table rule": each rule is asked at the line that can break it, and when the closing line comes none is left.
 use mathlib.Core.Path.{_≡_, refl, sym, ap, ap₂, _∙_, subst}
 use mathlib.Core.Bool.{Bool, true, false, false≢true}
 use mathlib.Core.Logic.{_⊎_, inl, inr}
