@@ -1,6 +1,9 @@
 // Reads lines, takes each apart by its type and prints it again from its fields, or prints `ff01`. Then prints one answer of each kind.
 ghost use mathlib.Core.Path.{_≡_};
-ghost use Rattle.lines_examples.specs.Feeding.{fed, Going, groupAfter, groupFed, groupTaken, StillGoing, taken, WholeLines};
+ghost use Prim.Native.Nat.{_≤_};
+ghost use lib.ListN.{length};
+ghost use Rattle.keeping.specs.Feeding.{fed, Going, heldFed, heldTaken, taken, WholeLines};
+ghost use Rattle.lines_examples.specs.Feeding.{groupAfter, StillGoing};
 
 mod echo;
 
@@ -8,7 +11,7 @@ use libc::STDIN_FILENO;
 use libc::STDOUT_FILENO;
 use writing::Written;
 
-// The characters of the longest line. Of a longer one so many are kept, which read as the whole line does (law `line-answered`, by which `feed` keeps its promise).
+// The characters of the longest line. Of a longer one so many are kept, which read as the whole line does (law `line-answered` of `keeping`, by which `feed` keeps its promise).
 const LINE: usize = 2 * lines::LONGEST + 1;
 
 // What the answers at the end say: the refusal of a space that holds no table, a flag that is on, steps taken, and the total -7 in its two words.
@@ -55,16 +58,9 @@ fn print(out: &[u8], written: Written) {
     }
 }
 
-// The answer to what is no line.
-fn refuse() {
-    let mut out = [0u8; LINE];
-    let written = echo::refuse(&mut out);
-    print(&out, written);
-}
-
 // Answers one line; the group's size after it. What is no line is heard as no bytes, which have no type.
 fn reply(line: &[u8], stations: usize) -> usize
-    ensures { λ r. ⌜ r ≡ groupAfter stations (now (line .entry)) ⌝ }
+    ensures { λ r. ⌜ r ≡ groupAfter (now (line .entry)) stations ⌝ }
 {
     let mut bytes = [0u8; lines::LONGEST];
     let n = heard::hear(line, &mut bytes);
@@ -76,20 +72,15 @@ fn reply(line: &[u8], stations: usize) -> usize
 
 // One byte of input: it joins the line, and ends it if it is LF. No more is kept than the space holds.
 fn take(line: &mut [u8], kept: Kept, b: u8) -> Kept
+    requires { ⌜ kept .have ≤ length (now line) ⌝ }
     ensures { λ r. ⌜ ((r .have, now (line .exit)) ≡ taken (now (line .entry)) (kept .have) b)
-        × (r .stations ≡ groupTaken (now (line .entry)) (kept .have) (kept .stations) b) ⌝ }
+        × ((r .stations ≡ heldTaken groupAfter (now (line .entry)) (kept .have) (kept .stations) b)
+        × (r .have ≤ length (now (line .exit)))) ⌝ }
 {
     let have = hexes::keep(line, kept.have, b);
     let stations = kept.stations;
     if b != hexes::LF {
         return Kept { have, stations };
-    }
-    if line.len() < have {
-        let after = reply(line, stations);
-        return Kept {
-            have: 0,
-            stations: after,
-        };
     }
     let after = reply(&line[0..have], stations);
     Kept {
@@ -102,8 +93,8 @@ fn take(line: &mut [u8], kept: Kept, b: u8) -> Kept
 fn feed(line: &mut [u8], from: Kept, chunk: &[u8]) -> Kept
     requires { ⌜ Going (now line) (from .have) ⌝ }
     ensures { λ r. ⌜ ((r .have, now (line .exit)) ≡ fed (now (line .entry)) (from .have) (now (chunk .entry)))
-        × ((r .stations ≡ groupFed (now (line .entry)) (from .have) (from .stations) (now (chunk .entry)))
-        × (WholeLines (now (line .entry)) (from .have) (from .stations) (now (chunk .entry)) (r .stations)
+        × ((r .stations ≡ heldFed groupAfter (now (line .entry)) (from .have) (from .stations) (now (chunk .entry)))
+        × (WholeLines groupAfter (now (line .entry)) (from .have) (from .stations) (now (chunk .entry)) (r .stations)
         × Going (now (line .exit)) (r .have))) ⌝ }
 {
     let mut have = from.have;
@@ -161,13 +152,11 @@ fn answers() {
 }
 
 // The input is at its end: a last piece without LF is a line too.
-fn finish(line: &[u8], have: usize, stations: usize) {
+fn finish(line: &[u8], have: usize, stations: usize)
+    requires { ⌜ have ≤ length (now line) ⌝ }
+{
     if 0 < have {
-        if have <= line.len() {
-            reply(&line[0..have], stations);
-        } else {
-            refuse();
-        }
+        reply(&line[0..have], stations);
     }
     answers();
 }

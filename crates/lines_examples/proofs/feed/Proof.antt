@@ -19,7 +19,7 @@ shared-slice-read-take : tie.Need-shared-slice-read-take Inv-loop μ-loop
 shared-slice-read-take c = search needs
 
 take-requires : tie.Need-take-requires Inv-loop μ-loop
-take-requires c κs = tt
+take-requires c κs = search needs
 
 add-i : tie.Need-add-i Inv-loop μ-loop
 add-i c = search needs
@@ -34,7 +34,7 @@ same-length : tie.Need-same-length Inv-loop μ-loop
 same-length c = search needs
 
 returns : tie.Need-returns Inv-loop μ-loop
-returns c = (search feeding-done, (search group-done, (whole-lines _ _ _ _ _ (search group-done), search going-done)))
+returns c = (search feeding-done, (search group-done, (search whole-lines, search going-done)))
 
 pub feed-spec : {M : Type 1} → statement M
 feed-spec =

@@ -1,5 +1,5 @@
 -- `lines_examples::main` meets its contract. The loop keeps `Holding`: the line's length, and that its space holds what was kept of a line.
-use Rattle.lines_examples.proofs.Feeding.{Holding, holding-start, holding-turn}
+use Rattle.lines_examples.proofs.Feeding.{Holding, holding-end, holding-start, holding-turn}
 use borrow.Author.Needs.{needs}
 use Rattle.lines_examples.proofs.main.Statement.{statement}
 use Rattle.lines_examples.proofs.main.Tie as tie
@@ -29,7 +29,7 @@ slice-aggregate-finish : tie.Need-slice-aggregate-finish Inv-loop μ-loop
 slice-aggregate-finish c = search needs
 
 finish-requires : tie.Need-finish-requires Inv-loop μ-loop
-finish-requires c κs = search needs
+finish-requires c κs = search (holding-end, needs)
 
 returns : tie.Need-returns Inv-loop μ-loop
 returns c = search needs

@@ -1,5 +1,6 @@
 -- `lines_examples::take` meets its contract.
-use Rattle.lines_examples.proofs.Feeding.{group-ended, group-joined, group-whole, taken-ended, taken-joined}
+use Rattle.keeping.proofs.Feeding.{have-within, taken-ended, taken-joined}
+use Rattle.lines_examples.proofs.Feeding.{group-ended, group-joined}
 use borrow.Author.Needs.{needs}
 use Rattle.lines_examples.proofs.take.Statement.{statement}
 use Rattle.lines_examples.proofs.take.Tie as tie
@@ -11,16 +12,7 @@ same-length : tie.Need-same-length
 same-length c = search needs
 
 returns : tie.Need-returns
-returns c = (search taken-joined, search group-joined)
-
-reply-requires : tie.Need-reply-requires
-reply-requires c κs = search needs
-
-same-length-2 : tie.Need-same-length-2
-same-length-2 c = search needs
-
-returns-2 : tie.Need-returns-2
-returns-2 c = (search taken-ended, search group-whole)
+returns c = (search taken-joined, (search group-joined, search have-within))
 
 sub-reply : tie.Need-sub-reply
 sub-reply c = search needs
@@ -29,16 +21,16 @@ part-reply-start : tie.Need-part-reply-start
 part-reply-start c = search needs
 
 part-reply-end : tie.Need-part-reply-end
-part-reply-end c = search needs
+part-reply-end c = search (have-within, needs)
 
-reply-requires-2 : tie.Need-reply-requires-2
-reply-requires-2 c κs = search needs
+reply-requires : tie.Need-reply-requires
+reply-requires c κs = search needs
 
-same-length-3 : tie.Need-same-length-3
-same-length-3 c = search needs
+same-length-2 : tie.Need-same-length-2
+same-length-2 c = search needs
 
-returns-3 : tie.Need-returns-3
-returns-3 c = (search taken-ended, search group-ended)
+returns-2 : tie.Need-returns-2
+returns-2 c = (search taken-ended, (search group-ended, search needs))
 
 pub take-spec : {M : Type 1} → statement M
 take-spec =
@@ -47,12 +39,9 @@ take-spec =
     keep-requires
     same-length
     returns
-    reply-requires
-    same-length-2
-    returns-2
     sub-reply
     part-reply-start
     part-reply-end
-    reply-requires-2
-    same-length-3
-    returns-3)
+    reply-requires
+    same-length-2
+    returns-2)
