@@ -75,6 +75,17 @@ module _ {A : Type 0} (answer : List ℕ → A → A) (space₀ : List ℕ) (hav
     unfolding heldFed
     held-done h = sym (F .holds ∙ rw (drop-of-length-le piece h) refl)
 
+-- pieces of input one after the other are fed as one
+pub fed-append : (space : List ℕ) (have : ℕ) (a b : List ℕ) → fed space have (a ++ b) ≡ fed (fed space have a .1) (fed space have a .0) b
+unfolding fed
+fed-append space have [] b = refl
+fed-append space have (x ∷ a) b = fed-append (taken space have x .1) (taken space have x .0) a b
+
+pub held-append : {A : Type 0} (answer : List ℕ → A → A) (space : List ℕ) (have : ℕ) (held : A) (a b : List ℕ) → heldFed answer space have held (a ++ b) ≡ heldFed answer (fed space have a .1) (fed space have a .0) (heldFed answer space have held a) b
+unfolding fed heldFed
+held-append answer space have held [] b = refl
+held-append answer space have held (x ∷ a) b = held-append answer (taken space have x .1) (taken space have x .0) (heldTaken answer space have held x) a b
+
 -- of no characters none are kept
 pub keeps-none : (space : List ℕ) → length space ≡ 2 * 261 + 1 → Keeps [] space 0
 unfolding keptAll NoLf

@@ -1,7 +1,7 @@
--- A form that comes in pieces: its lines judged as they end, and what main keeps.
+-- A form that comes in pieces: its lines judged as they end, and what is known of it at the end.
 use Prim.Native.Nat.{ℕ, _+_, _-_, _≤_, _<_}
-use mathlib.Core.Path.{_≡_, refl, subst, _∙_}
-use mathlib.Core.List.{List, []}
+use mathlib.Core.Path.{_≡_, refl, sym, ap, ap₂, subst, _∙_}
+use mathlib.Core.List.{List, [], _++_}
 use native.Mathlib.Omega.{arith}
 use lib.ListN.{getD, length, take}
 use Rattle.hexes.specs.Hex.{lf}
@@ -10,12 +10,14 @@ use Rattle.ranges.specs.Spaces.{mostWords}
 use Rattle.keeping.specs.Feeding.{fed, Going, heldFed, heldTaken, LastPiece, taken, WholeLines}
 use Rattle.keeping.proofs.Feeding as keeping
 use Rattle.judging.specs.declared.Judged.{Judged}
-use Rattle.judging.specs.Judging.{judgedBy}
+use Rattle.judging.specs.declared.Judged.the-variants as judged
+use Rattle.judging.specs.Judging.{Judging, judgedBy, judgedEnd}
+use Rattle.gathering.specs.Gathering.{Gathered, Held, reprinted}
 use Rattle.judging.proofs.Judging.{judged-alike}
 use Rattle.resave.specs.declared.Kept.{Kept}
 use Rattle.resave.specs.declared.More.{More}
 use Rattle.resave.specs.declared.More.the-variants as more
-use Rattle.resave.specs.Ending.{StillGoing}
+use Rattle.resave.specs.Ending.{AfterRead, FormEnd, formEnded, Read}
 
 -- the ways through take
 module _ (space : List ℕ) (have b n : ℕ) (s : List ℕ) (e : (n, s) ≡ kept space have b) (known : Judged) (words : List ℕ) where
@@ -66,14 +68,7 @@ module _ (space₀ : List ℕ) (have₀ : ℕ) (known₀ : Judged) (words₀ pie
       pub going-done : Going space₀ have₀ → Going space have
       going-done G = keeping.going-on space₀ have₀ piece space have feeding-done G
 
--- what some promises
-pub still-ended : (space : List ℕ) (have : ℕ) → Going space have → StillGoing have space more.End
-still-ended space have G = G
-
-pub still-going : (before : ℕ) (space : List ℕ) (k : Kept) → Going space (k .have) → StillGoing before space (more.Yes k)
-still-going before space k G = G
-
--- what end promises
+-- what last promises
 module _ (space : List ℕ) (have : ℕ) (known : Judged) (words : List ℕ) where
   pub nothing-left : have ≡ 0 → LastPiece judgedBy space have (known, words) (known, words)
   nothing-left z = keeping.nothing-left judgedBy judged-alike space have (known, words) z
@@ -81,18 +76,46 @@ module _ (space : List ℕ) (have : ℕ) (known : Judged) (words : List ℕ) whe
   pub piece-left : (r : Judged) (x : List ℕ) → (have ≡ 0 → ⊥) → (r, x) ≡ judgedBy (take (have - 0) space) (known, words) → LastPiece judgedBy space have (known, words) (r, x)
   piece-left r x h e = keeping.piece-left judgedBy judged-alike space have (known, words) (r, x) h e
 
--- what main keeps: the lengths of the spaces, and that input goes on
-pub record Holding (words space : List ℕ) (have : ℕ) : Type 0 where
+-- what end promises
+pub form-ended : (space : List ℕ) (have : ℕ) (known : Judged) (words : List ℕ) (waiting : Gathered) (r : Judged) (x : List ℕ) → LastPiece judgedBy space have (known, words) (r, x) → (w : Judged) (y : List ℕ) → (w, y) ≡ judgedEnd (r, x) → (after : Held) → after ≡ reprinted w (y, waiting) → FormEnd space have (known, words) waiting after
+unfolding formEnded
+form-ended space have known words waiting r x l w y e after f line K =
+    f ∙ ap (λ (j : Judging). reprinted (j .0) (j .1, waiting)) e ∙ ap (λ (j : Judging). reprinted (judgedEnd j .0) (judgedEnd j .1, waiting)) (l line K)
+
+-- what read keeps from one read to the next
+pub record Reading (line₀ words₀ line words : List ℕ) (have : ℕ) (known : Judged) : Type 0 where
   pub words-long : length words ≡ mostWords
-  pub line-long : length space ≡ 523
-  pub going : Going space have
+  pub line-long : length line ≡ length line₀
+  pub going : Going line have
+  pub read : Read line₀ 0 (judged.Open, words₀) line have (known, words)
 
-pub holding-start : (words space : List ℕ) → length words ≡ mostWords → length space ≡ 523 → Holding words space 0
-holding-start words space v l = record { words-long = v; line-long = l; going = record { line = []; keeps = keeping.keeps-none space l } }
+module _ (line₀ words₀ : List ℕ) where
+  pub reading-start : length words₀ ≡ mostWords → length line₀ ≡ 523 → Reading line₀ words₀ line₀ words₀ 0 judged.Open
+  unfolding fed heldFed
+  reading-start w l = record { words-long = w; line-long = refl; going = record { line = []; keeps = keeping.keeps-none line₀ l }; read = record { input = []; kept-is = refl; known-is = refl } }
 
-pub holding-turn : (words space x s : List ℕ) (have : ℕ) (k : Kept) (r : More) → Holding words space have → StillGoing have s r → r ≡ more.Yes k → length x ≡ length words → length s ≡ length space → Holding x s (k .have)
-holding-turn words space x s have k r H g e v l =
-    record { words-long = v ∙ H .words-long; line-long = l ∙ H .line-long; going = subst (λ (q : More). StillGoing have s q) e g }
+  module _ (line words : List ℕ) (have : ℕ) (known : Judged) (R : Reading line₀ words₀ line words have known) (s x : List ℕ) (r : More) (g : AfterRead line have (known, words) s x r) where
+    -- what was read now behind what was read before
+    both : (k : Kept) → Read line have (known, words) s (k .have) (k .known, x) → Read line₀ 0 (judged.Open, words₀) s (k .have) (k .known, x)
+    both k S = record {
+      input = R .read .input ++ S .input;
+      kept-is = S .kept-is ∙ ap (λ (q : ℕ × List ℕ). fed (q .1) (q .0) (S .input)) (R .read .kept-is) ∙ sym (keeping.fed-append line₀ 0 (R .read .input) (S .input));
+      known-is =
+          S .known-is
+          ∙ ap₂ (λ (q : ℕ × List ℕ) (j : Judging). heldFed judgedBy (q .1) (q .0) j (S .input)) (R .read .kept-is) (R .read .known-is)
+          ∙ sym (keeping.held-append judgedBy line₀ 0 (judged.Open, words₀) (R .read .input) (S .input));
+    }
 
-pub holding-end : (s : List ℕ) (have : ℕ) (r : More) → StillGoing have s r → r ≡ more.End → Going s have
-holding-end s have r g e = subst (λ (q : More). StillGoing have s q) e g
+    pub reading-turn : (k : Kept) → r ≡ more.Yes k → length x ≡ length words → length s ≡ length line → Reading line₀ words₀ s x (k .have) (k .known)
+    reading-turn k e w l =
+        let h : AfterRead line have (known, words) s x (more.Yes k) = subst (λ (q : More). AfterRead line have (known, words) s x q) e g in
+        record { words-long = w ∙ R .words-long; line-long = l ∙ R .line-long; going = h .0; read = both k (h .1) }
+
+    same : r ≡ more.End → (s ≡ line) × (x ≡ words)
+    same e = subst (λ (q : More). AfterRead line have (known, words) s x q) e g
+
+    pub ended-going : r ≡ more.End → Going s have
+    ended-going e = subst (λ (l : List ℕ). Going l have) (sym (same e .0)) (R .going)
+
+    pub ended-read : r ≡ more.End → Read line₀ 0 (judged.Open, words₀) s have (known, x)
+    ended-read e = subst (λ (q : List ℕ × List ℕ). Read line₀ 0 (judged.Open, words₀) (q .0) have (known, q .1)) (sym (ap₂ (λ (a b : List ℕ). (a, b)) (same e .0) (same e .1))) (R .read)

@@ -2,10 +2,12 @@
 ghost use mathlib.Core.Path.{_≡_};
 ghost use Prim.Native.Nat.{_≤_};
 ghost use lib.ListN.{length};
+ghost use Rattle.gathering.specs.Gathering.{HasRoom};
 ghost use Rattle.judging.specs.Judging.{judgedBy};
 ghost use Rattle.keeping.specs.Feeding.{fed, Going, heldFed, heldTaken, LastPiece, taken, WholeLines};
 ghost use Rattle.ranges.specs.Spaces.{mostWords};
-ghost use Rattle.resave.specs.Ending.{StillGoing};
+ghost use Rattle.resave.specs.Ending.{AfterRead, FormEnd, Read};
+ghost use Rattle.judging.specs.declared.Judged.the-variants.{Open};
 use gathering::LINE;
 use gathering::MOST_WORDS;
 use gathering::PENDING;
@@ -67,7 +69,7 @@ enum More {
 // One read, and its bytes.
 fn some(space: &mut [u32], line: &mut [u8], from: Kept) -> More
     requires { ⌜ (length (now space) ≡ mostWords) × Going (now line) (from .have) ⌝ }
-    ensures { λ r. ⌜ StillGoing (from .have) (now (line .exit)) r ⌝ }
+    ensures { λ r. ⌜ AfterRead (now (line .entry)) (from .have) (from .known, now (space .entry)) (now (line .exit)) (now (space .exit)) r ⌝ }
 {
     let mut buffer = io::large_buffer();
     let got = libc::read(STDIN_FILENO, &mut buffer);
@@ -78,8 +80,33 @@ fn some(space: &mut [u32], line: &mut [u8], from: Kept) -> More
     More::Yes(feed(space, line, from, &buffer[..n]))
 }
 
-// The input is at its end: a last piece without LF is a line too.
-fn end(space: &mut [u32], line: &[u8], kept: Kept) -> Judged
+// The whole input, a read at a time.
+fn read(space: &mut [u32], line: &mut [u8]) -> Kept
+    requires { ⌜ (length (now space) ≡ mostWords) × (length (now line) ≡ 523) ⌝ }
+    ensures { λ r. ⌜ Going (now (line .exit)) (r .have)
+        × Read (now (line .entry)) 0 (Open, now (space .entry)) (now (line .exit)) (r .have) (r .known, now (space .exit)) ⌝ }
+{
+    let mut have: usize = 0;
+    let mut known = Judged::Open;
+    // A loop must end, and nothing says that input does: so many reads no run makes.
+    let mut turns = u64::MAX;
+    while turns > 0 {
+        match some(space, line, Kept { have, known }) {
+            More::Yes(kept) => {
+                have = kept.have;
+                known = kept.known;
+            }
+            More::End => {
+                return Kept { have, known };
+            }
+        }
+        turns -= 1;
+    }
+    Kept { have, known }
+}
+
+// A last piece without LF is a line too.
+fn last(space: &mut [u32], line: &[u8], kept: Kept) -> Judged
     requires { ⌜ Going (now line) (kept .have) ⌝ }
     ensures { λ r. ⌜ LastPiece judgedBy (now (line .entry)) (kept .have) (kept .known, now (space .entry)) (r, now (space .exit)) ⌝ }
 {
@@ -91,36 +118,27 @@ fn end(space: &mut [u32], line: &[u8], kept: Kept) -> Judged
     judging::judge(space, &line[0..have], known)
 }
 
-// The form is at its end: its output lines, written at once.
-fn print(space: &mut [u32], known: Judged) {
-    let mut pending = [0u8; PENDING];
+// The input is at its end, which the closing line must have reached: the output lines of the form.
+fn end(space: &mut [u32], line: &[u8], pending: &mut [u8], kept: Kept) -> Waiting
+    requires { ⌜ Going (now line) (kept .have) × HasRoom 0 (now pending) ⌝ }
+    ensures { λ r. ⌜ FormEnd (now (line .entry)) (kept .have) (kept .known, now (space .entry)) (0, now (pending .entry))
+        (now (space .exit), (r .count, now (pending .exit)))
+        × HasRoom (r .count) (now (pending .exit)) ⌝ }
+{
+    let known = last(space, line, kept);
+    let whole = judging::judge_end(space, known);
     let none = Waiting {
         count: 0,
         open: true,
     };
-    let waiting = gathering::print(space, known, &mut pending, none);
-    gathering::flush(&pending, waiting);
+    gathering::print(space, whole, pending, none)
 }
 
 fn main() {
     let mut space = [0u32; MOST_WORDS];
     let mut line = [0u8; LINE];
-    let mut have: usize = 0;
-    let mut known = Judged::Open;
-    let mut turns = u64::MAX;
-    while turns > 0 {
-        match some(&mut space, &mut line, Kept { have, known }) {
-            More::Yes(kept) => {
-                have = kept.have;
-                known = kept.known;
-            }
-            More::End => {
-                let last = end(&mut space, &line, Kept { have, known });
-                let whole = judging::judge_end(&mut space, last);
-                print(&mut space, whole);
-                return;
-            }
-        }
-        turns -= 1;
-    }
+    let mut pending = [0u8; PENDING];
+    let kept = read(&mut space, &mut line);
+    let waiting = end(&mut space, &line, &mut pending, kept);
+    gathering::flush(&pending, waiting);
 }

@@ -1,42 +1,28 @@
-use Rattle.resave.proofs.Feeding.{nothing-left, piece-left}
-use Rattle.keeping.proofs.Feeding.{going-within}
-use native.Mathlib.Omega.{arith}
+-- `resave::end` meets its contract.
+use Rattle.resave.proofs.Feeding.{form-ended}
 use borrow.Author.Needs.{needs}
 use Rattle.resave.proofs.end.Statement.{statement}
 use Rattle.resave.proofs.end.Tie as tie
-use Rattle.resave.proofs.end.Reads as reads
-use Rattle.resave.proofs.end.Lts as lts
-use Rattle.judging.proofs.judge.Reads as judge-reads
 
-returns : tie.Need-returns
-returns c = search nothing-left
+last-requires : tie.Need-last-requires
+last-requires c κs = search needs
 
-sub-judge : tie.Need-sub-judge
-sub-judge c = search needs
+judge-end-requires : tie.Need-judge-end-requires
+judge-end-requires c κs = search needs
 
-part-judge-start : tie.Need-part-judge-start
-part-judge-start c = search needs
-
-part-judge-end : tie.Need-part-judge-end
-part-judge-end c = search going-within
-
-judge-requires : tie.Need-judge-requires
-judge-requires c κs = search needs
+print-requires : tie.Need-print-requires
+print-requires c κs = search needs
 
 same-length : tie.Need-same-length
 same-length c = search needs
 
-returns-2 : tie.Need-returns-2
-returns-2 c = search piece-left
+same-length-2 : tie.Need-same-length-2
+same-length-2 c = search needs
+
+returns : tie.Need-returns
+returns c = (search form-ended, search needs)
 
 pub end-spec : {M : Type 1} → statement M
 end-spec =
     tie.close
-    (tie.spec
-    returns
-    sub-judge
-    part-judge-start
-    part-judge-end
-    judge-requires
-    same-length
-    returns-2)
+    (tie.spec last-requires judge-end-requires print-requires same-length same-length-2 returns)
