@@ -207,7 +207,7 @@ module _ (line words : List ℕ) (s : Station) (H : Holds words s) where
   settling-accepts (meaning.Settled.refused number) = refl
   settling-accepts (meaning.Settled.settled steps table) = refl
 
-  settle-accepted : afterAll (eventsOf (settles line) words) s .accepted ≡ s .accepted
+  pub settle-accepted : afterAll (eventsOf (settles line) words) s .accepted ≡ s .accepted
   unfolding eventsOf afterAll after
   settle-accepted = by (settlingRead (bytesOf line) .ok)
     where

@@ -31,7 +31,7 @@ use Rattle.loading.specs.Loading.{loadedAll, loadedBy, underLoad}
 use Rattle.restoring.specs.Restoring.{loads}
 use Rattle.restoring.proofs.RoundTrip as restoring
 use Rattle.calls.specs.Answers.{answerOf}
-use Rattle.agreeing.specs.Station.{eventsOfAll}
+use Rattle.agreeing.specs.Station.{eventsOf, eventsOfAll, wordsAfter}
 use Rattle.agreeing.specs.Lines.{OpenedBy, acceptedBy, callsOf, meantAnswer}
 use Rattle.agreeing.proofs.Calling.{Holds, after-both, opening-in-range, reply-agrees, reply-meant, rows-agree}
 use Rattle.agreeing.proofs.Lines.{line-accepted, next-holds, opened-fresh, opened-holds, question-on}
@@ -43,7 +43,8 @@ pub use Rattle.restoring.proofs.Beginnings.{each-rule-at-its-line, wrong-at-onc
 pub use Rattle.restoring.proofs.EachRule.{rules-kept, table-before-closing}
 -- 1, 13 and 15 of a line of a form, exactly when
 pub use Rattle.continuing.proofs.LoadsExactly.{exactly-when}
-use Rattle.continuing.specs.Continuing.{Act, said, restored, Fitting, acceptedByActs, actAfter, actsAfter}
+use Rattle.continuing.specs.Continuing.{Act, said, called, restored, Fitting, acceptedByActs, actAfter, actsAfter}
+use Rattle.continuing.proofs.Called.{called-accepted, called-holds}
 
 -- what a form leaves where all its lines are taken
 all-loaded : (lines : List (List ℕ)) (words after : List ℕ) → loads lines words after → loadedAll lines words .1 ≡ after
@@ -70,6 +71,7 @@ restored-holds words space s H n room =
 abbrev eventsOfActs : List Act → List ℕ → List Event
 eventsOfActs [] words = []
 eventsOfActs (said line ∷ rest) words = eventsOfAll (callsOf line) words ++ eventsOfActs rest (actAfter (said line) words)
+eventsOfActs (called call ∷ rest) words = eventsOf call words ++ eventsOfActs rest (actAfter (called call) words)
 eventsOfActs (restored space ∷ rest) words = eventsOfActs rest (actAfter (restored space) words)
 
 acts-hold : (acts : List Act) (words : List ℕ) (s : Station) → Fitting acts words → Holds words s → Holds (actsAfter acts words) (afterAll (eventsOfActs acts words) s)
@@ -78,6 +80,9 @@ acts-hold [] words s f H = H
 acts-hold (said line ∷ rest) words s f H =
     subst (λ (t : Station). Holds (actsAfter rest (answerOf line words .1)) t) (sym (after-both (eventsOfAll (callsOf line) words) (eventsOfActs rest (answerOf line words .1)) s))
     (acts-hold rest (answerOf line words .1) (afterAll (eventsOfAll (callsOf line) words) s) f (next-holds line [] words s H))
+acts-hold (called call ∷ rest) words s f H =
+    subst (λ (t : Station). Holds (actsAfter rest (wordsAfter call words)) t) (sym (after-both (eventsOf call words) (eventsOfActs rest (wordsAfter call words)) s))
+    (acts-hold rest (wordsAfter call words) (afterAll (eventsOf call words) s) f (called-holds words s H call))
 acts-hold (restored space ∷ rest) words s f H = acts-hold rest (actAfter (restored space) words) s (f .1 .1) (restored-holds words space s H (f .0) (f .1 .0))
 
 acts-accepted : (acts : List Act) (words : List ℕ) (s : Station) → Fitting acts words → Holds words s → afterAll (eventsOfActs acts words) s .accepted ≡ acceptedByActs acts words (s .accepted)
@@ -88,6 +93,10 @@ acts-accepted (said line ∷ rest) words s f H =
     ap (λ (t : Station). t .accepted) (after-both (eventsOfAll (callsOf line) words) (eventsOfActs rest (answerOf line words .1)) s)
     ∙ acts-accepted rest (answerOf line words .1) next f (next-holds line [] words s H)
     ∙ ap (acceptedByActs rest (answerOf line words .1)) (line-accepted line words s H)
+acts-accepted (called call ∷ rest) words s f H =
+    ap (λ (t : Station). t .accepted) (after-both (eventsOf call words) (eventsOfActs rest (wordsAfter call words)) s)
+    ∙ acts-accepted rest (wordsAfter call words) (afterAll (eventsOf call words) s) f (called-holds words s H call)
+    ∙ ap (acceptedByActs rest (wordsAfter call words)) (called-accepted words s H call)
 acts-accepted (restored space ∷ rest) words s f H = acts-accepted rest (actAfter (restored space) words) s (f .1 .1) (restored-holds words space s H (f .0) (f .1 .0))
 
 -- from an opening line that was answered `00`, whatever befalls the table

@@ -1,1 +1,1 @@
-// Histories in which a table is saved and its latest form loaded. This crate has no functions: its definitions are in specs/, its theorems in proofs/.
+// Histories of lines, calls, and the table's latest form loaded into another space. This crate has no functions: its definitions are in specs/, its theorems in proofs/.
