@@ -172,7 +172,7 @@ pub fn read_operation(s: &[u8]) -> Operation
 pub fn read_issue(s: &[u8]) -> Issue
     ensures { λ r. ⌜ r ≡ issueRead (now (s .entry)) ⌝ }
 {
-    let f = shapes::read_fields(s, ISSUE, &ISSUE_WIDTHS, 0);
+    let f = shapes::read_short(s, ISSUE);
     let head = f.head;
     Issue {
         ok: f.ok,
@@ -196,7 +196,7 @@ pub fn read_settling(s: &[u8]) -> Settling
 pub fn read_question(s: &[u8]) -> Question
     ensures { λ r. ⌜ r ≡ questionRead (now (s .entry)) ⌝ }
 {
-    let f = shapes::read_fields(s, QUESTION, &QUESTION_WIDTHS, 0);
+    let f = shapes::read_short(s, QUESTION);
     let head = f.head;
     Question {
         ok: f.ok,

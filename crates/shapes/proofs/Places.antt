@@ -12,6 +12,7 @@ use lib.Seq.{drop-cons}
 use Rattle.hexes.specs.Choice.{pick}
 use Rattle.hexes.specs.Numbers.{numberFrom, numberOf}
 use Rattle.shapes.specs.Places.{byteAt, fourAt}
+use Rattle.shapes.specs.Readers.{placeAfter}
 use Rattle.shapes.specs.declared.NextByte.the-variants.{Byte, NoByte}
 use Rattle.shapes.specs.declared.NextFour.the-variants.{Four, NoFour}
 
@@ -82,3 +83,16 @@ no-four-given s at = go (leb (at + 4) (length s)) refl
     go : (t : Bool) → leb (at + 4) (length s) ≡ t → pick t (Four (numberOf (take 4 (drop at s))) (at + 4)) NoFour ≡ NoFour → length s < at + 4
     go true e f = absurd (let z : _≡_ {A = ℕ} 0 1 = cc in omega arith)
     go false e f = leb-false (at + 4) (length s) e
+
+module _ (s : List ℕ) (at width : ℕ) where
+  pub after-past : length s < at → at ≡ placeAfter width s at
+  unfolding placeAfter
+  after-past h = rw (lt-leb (at + width) (length s) (omega arith)) refl
+
+  pub after-few : at ≤ length s → length s - at < width → at ≡ placeAfter width s at
+  unfolding placeAfter
+  after-few h k = rw (lt-leb (at + width) (length s) (omega arith)) refl
+
+  pub after-enough : at ≤ length s → width ≤ length s - at → at + width ≡ placeAfter width s at
+  unfolding placeAfter
+  after-enough h k = rw (le-leb (at + width) (length s) (omega arith)) refl

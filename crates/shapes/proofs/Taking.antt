@@ -43,11 +43,11 @@ module _ (s : List ℕ) (size : ℕ) where
       go false k = sym (ne-eqb (length s) size (λ j. omega (arith, leb-false (length s) size k)))
 
 -- the code tests for the opposite
-passed : (t : Bool) → not t ≡ false → t ≡ true
+pub passed : (t : Bool) → not t ≡ false → t ≡ true
 passed true h = refl
 passed false h = absurd (let z : _≡_ {A = ℕ} 0 1 = cc in omega arith)
 
-refused : (t : Bool) → not t ≡ true → t ≡ false
+pub refused : (t : Bool) → not t ≡ true → t ≡ false
 refused false h = refl
 refused true h = absurd (let z : _≡_ {A = ℕ} 0 1 = cc in omega arith)
 

@@ -1,3 +1,4 @@
 pub mod Places
 pub mod Shapes
 pub mod Reading
+pub mod Readers

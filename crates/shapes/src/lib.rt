@@ -5,6 +5,7 @@ ghost use lib.Dec.{eqb};
 ghost use lib.ListN.{drop, length, take};
 ghost use Rattle.hexes.specs.Numbers.{numberOf};
 ghost use Rattle.shapes.specs.Places.{atEnd, byteAt, fourAt};
+ghost use Rattle.shapes.specs.Readers.{byteOf, foundFields, placeAfter, readOn, shortWidths};
 ghost use Rattle.shapes.specs.Reading.{entries, fieldsRead, hasShape, Head, mostFields, mostStations, padded, unread};
 ghost use Rattle.shapes.specs.Shapes.{lengthOf, read, widest};
 
@@ -30,6 +31,12 @@ pub enum NextByte {
 pub enum NextFour {
     Four(u32, usize),
     NoFour,
+}
+
+// "A reader over a lent line holds the line and its place in it."
+pub struct Reader<'a> {
+    pub src: &'a [u8],
+    pub at: usize,
 }
 
 // A line taken apart: its fields, its type first, and the entries behind them, zeros after both; all zeros where its shape is wrong.
@@ -77,6 +84,46 @@ pub fn at_end(s: &[u8], at: usize) -> bool
     ensures { λ r. ⌜ r ≡ atEnd (now (s .entry)) at ⌝ }
 {
     s.len() <= at
+}
+
+// The place so many bytes further, or the same one where fewer are left.
+fn place_after(s: &[u8], at: usize, width: usize) -> usize
+    ensures { λ r. ⌜ r ≡ placeAfter width (now (s .entry)) at ⌝ }
+{
+    if s.len() < at {
+        return at;
+    }
+    if s.len() - at < width {
+        return at;
+    }
+    at + width
+}
+
+// The reader's next byte, behind which it then stands.
+pub fn next_byte<'s, 'a>(reader: &'s mut Reader<'a>) -> NextByte
+    ensures { λ r. ⌜ (r ≡ byteAt (now (now (reader .entry) .src)) (now (reader .entry) .at)) × (now (reader .exit) ≡ readOn 1 (now (reader .entry))) ⌝ }
+{
+    let at = reader.at;
+    let next = byte_at(reader.src, at);
+    reader.at = place_after(reader.src, at, 1);
+    next
+}
+
+// The number of the reader's next four bytes, behind which it then stands.
+pub fn next_four<'s, 'a>(reader: &'s mut Reader<'a>) -> NextFour
+    ensures { λ r. ⌜ (r ≡ fourAt (now (now (reader .entry) .src)) (now (reader .entry) .at)) × (now (reader .exit) ≡ readOn 4 (now (reader .entry))) ⌝ }
+{
+    let at = reader.at;
+    let next = four_at(reader.src, at);
+    reader.at = place_after(reader.src, at, FOUR);
+    next
+}
+
+// Whether the reader has come to the end of its line.
+pub fn reader_at_end<'a>(reader: Reader<'a>) -> bool
+    ensures { λ r. ⌜ r ≡ atEnd (now (reader .entry .src)) (reader .entry .at) ⌝ }
+{
+    at_end(reader.src, reader.at)
 }
 
 // The number of so many bytes at a place, or of those that are left.
@@ -211,4 +258,54 @@ pub fn read_fields(s: &[u8], kind: u8, widths: &[u8], stations: usize) -> Fields
     } else {
         no_fields()
     }
+}
+
+// The byte that was given, or 0.
+fn byte_of(next: NextByte) -> u32
+    ensures { λ r. ⌜ r ≡ byteOf next ⌝ }
+{
+    match next {
+        NextByte::Byte(byte, _) => wide(byte),
+        NextByte::NoByte => 0,
+    }
+}
+
+// The fields of a line of its type, two bytes and four, where a reader found the four and then the end.
+fn found_fields(
+    kind: u8,
+    first: NextByte,
+    second: NextByte,
+    third: NextByte,
+    number: NextFour,
+    ended: bool,
+) -> Fields
+    ensures { λ r. ⌜ r ≡ foundFields kind first second third number ended ⌝ }
+{
+    if !ended {
+        return no_fields();
+    }
+    if byte_of(first) != wide(kind) {
+        return no_fields();
+    }
+    match number {
+        NextFour::Four(value, _) => Fields {
+            ok: true,
+            head: [byte_of(first), byte_of(second), byte_of(third), value, 0, 0],
+            vector: [0u32; MOST_STATIONS],
+        },
+        NextFour::NoFour => no_fields(),
+    }
+}
+
+// Takes a line of its type, two bytes and four apart by one reader, from its front to its end.
+pub fn read_short(s: &[u8], kind: u8) -> Fields
+    ensures { λ r. ⌜ r ≡ fieldsRead kind shortWidths 0 (now (s .entry)) ⌝ }
+{
+    let mut reader = Reader { src: s, at: 0 };
+    let first = next_byte(&mut reader);
+    let second = next_byte(&mut reader);
+    let third = next_byte(&mut reader);
+    let number = next_four(&mut reader);
+    let ended = reader_at_end(reader);
+    found_fields(kind, first, second, third, number, ended)
 }

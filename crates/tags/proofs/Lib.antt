@@ -2,3 +2,4 @@ pub mod Pairs
 pub mod Lessening
 pub mod Relations
 pub mod Places
+pub mod Again

@@ -3,6 +3,7 @@ ghost use mathlib.Core.Path.{_≡_};
 ghost use Prim.Native.Nat.{_+_, _<_, min};
 ghost use lib.ListN.{length, getD};
 ghost use Rattle.meaning.specs.Order.{atMost, same, beforeByVector, raised, least, entryLimit};
+ghost use Rattle.tags.specs.Clocks.{clockRaised};
 ghost use Rattle.tags.specs.Relations.{relationOf};
 
 // "A station's place, an operation's number and a count of rows are three separate quantities."
@@ -138,11 +139,33 @@ pub fn number_at(v: &[u32], sender: Station) -> Number
     Number(NO_NUMBER)
 }
 
-// "The clock of a table lent to a call is advanced where it stands": the sender's entry, by one.
+// "The clock of a table lent to a call is advanced where it stands": D, as the part of the lent words where it stands.
+pub struct Clock<'a> {
+    pub d: &'a mut [u32],
+}
+
+// One more at the sender's entry.
+fn raise_at(v: &mut [u32], sender: Station)
+    requires { ⌜ (sender .0 < length (now v)) × (getD (now v) (sender .0) 0 + 1 < entryLimit) ⌝ }
+    ensures { λ _. ⌜ now (v .exit) ≡ raised (now (v .entry)) (sender .0) ⌝ }
+{
+    let at = wide(sender.0);
+    v[at] = v[at] + 1;
+}
+
+// Raises the sender's entry of a clock that is lent.
+pub fn raise<'s, 'a>(clock: &'s mut Clock<'a>, sender: Station)
+    requires { ⌜ (sender .0 < length (now (now clock .d))) × (getD (now (now clock .d)) (sender .0) 0 + 1 < entryLimit) ⌝ }
+    ensures { λ _. ⌜ now (clock .exit) ≡ clockRaised (now (clock .entry)) (sender .0) ⌝ }
+{
+    raise_at(&mut *clock.d, sender);
+}
+
+// Makes the clock of the words where D stands and lends it, so that whoever holds a table lends words alone.
 pub fn advance(d: &mut [u32], sender: Station)
     requires { ⌜ (sender .0 < length (now d)) × (getD (now d) (sender .0) 0 + 1 < entryLimit) ⌝ }
     ensures { λ _. ⌜ now (d .exit) ≡ raised (now (d .entry)) (sender .0) ⌝ }
 {
-    let at = wide(sender.0);
-    d[at] = d[at] + 1;
+    let mut clock = Clock { d };
+    raise(&mut clock, sender);
 }
