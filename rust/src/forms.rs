@@ -336,9 +336,10 @@ fn change(field: &mut [u8], rng: &mut Rng) {
 // ---- damage to the text ----
 
 fn damaged_text(table: &Table, rng: &mut Rng) -> Vec<u8> {
-    let mut texts: Vec<Vec<u8>> = saved_lines(table).iter().map(|line| encode(line)).collect();
+    let lines = saved_lines(table);
+    let mut texts: Vec<Vec<u8>> = lines.iter().map(|line| encode(line)).collect();
     let place = rng.below(texts.len());
-    match rng.below(20) {
+    match rng.below(24) {
         0 => texts.swap(place, rng.below(place + 1)),
         1 => texts.swap(place, place.saturating_sub(1)),
         2 => texts.insert(place, texts[place].clone()),
@@ -357,9 +358,29 @@ fn damaged_text(table: &Table, rng: &mut Rng) -> Vec<u8> {
         16 => return cut(join(&texts), rng),
         17 => return without_end(join(&texts), rng),
         18 => return one_byte_changed(join(&texts), rng),
+        19..=21 => return a_byte_more_or_less(lines, rng),
+        22 => texts[0] = line_of_no_saved_type(rng),
         _ => return odd_input(join(&texts), rng),
     }
     join(&texts)
+}
+
+/// At the end of a line of some type.
+fn a_byte_more_or_less(mut lines: Vec<Vec<u8>>, rng: &mut Rng) -> Vec<u8> {
+    let place = line_of_some_type(&lines, rng);
+    if rng.percent(50) {
+        lines[place].push(rng.pick(&[0, 1, 0xff]));
+    } else {
+        lines[place].pop();
+    }
+    text_of_bytes(&lines)
+}
+
+/// Of a type between those of the rows and of the closing line.
+fn line_of_no_saved_type(rng: &mut Rng) -> Vec<u8> {
+    let mut bytes = vec![rng.within(0x54, 0x5e) as u8];
+    bytes.extend(vec![0; rng.below(4)]);
+    encode(&bytes)
 }
 
 /// A line of another sort, or one that belongs elsewhere.

@@ -16,6 +16,7 @@ pub mod group;
 pub mod kinds;
 pub mod lines;
 pub mod material;
+pub mod other;
 pub mod program;
 pub mod refusal;
 pub mod replay;

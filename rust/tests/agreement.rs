@@ -4,13 +4,16 @@
 use second::gen::{form, session};
 use second::group::Group;
 use second::kinds::KINDS;
-use second::lines::{raw_lines, Frame, OpeningLine, Request};
+use second::lines::{raw_lines, Frame, Line, OpeningLine, Request};
+use second::other::talk;
 use second::program::{load_form, run_resave, run_station, StationProgram};
 use second::rng::Rng;
 use second::rules::table_rules;
 use second::shrink::shrink;
 use second::station::{Mode, Reply, Station};
 use second::tally::Tally;
+use std::collections::BTreeSet;
+use std::time::Duration;
 
 #[test]
 fn modes_agree() {
@@ -275,4 +278,53 @@ fn shrinking_leaves_out_operations_and_rows() {
         |text: &[u8]| String::from_utf8_lossy(&run_resave(text)).contains("0000000200000000");
     let shortest = b"10010000040103\n5000000000\n53000101000000000200000000\n5f0001\n";
     assert_eq!(shrink(form, &mut has_two), shortest);
+}
+
+/// The type of a saved line and its length against the right one.
+fn type_and_excess(line: &[u8], n: usize) -> (u8, isize) {
+    let length = match line[0] {
+        0x50 => 1 + 4 * n,
+        0x51 => 2 + 4 * n,
+        0x52 => 10,
+        0x53 => 9 + 4 * n,
+        _ => 3,
+    };
+    (line[0], line.len() as isize - length as isize)
+}
+
+#[test]
+fn forms_have_lines_of_each_type_a_byte_too_long_and_too_short() {
+    let mut seen = BTreeSet::new();
+    for seed in 0..5000 {
+        let form = form(seed);
+        let lines = raw_lines(&form).into_iter().map(|raw| Line::from_raw(raw).decode());
+        let Ok(lines) = lines.collect::<Result<Vec<_>, _>>() else { continue };
+        let Some([0x10, n, ..]) = lines.first().map(Vec::as_slice) else { continue };
+        let saved = lines[1..].iter().filter(|line| !line.is_empty());
+        seen.extend(saved.map(|line| type_and_excess(line, usize::from(*n))));
+    }
+    for type_byte in [0x50, 0x51, 0x52, 0x53, 0x5f] {
+        assert!(seen.contains(&(type_byte, 1)), "no {type_byte:02x} line is too long");
+        assert!(seen.contains(&(type_byte, -1)), "no {type_byte:02x} line is too short");
+    }
+}
+
+#[test]
+fn forms_begin_with_lines_of_each_type_from_54_to_5e() {
+    let first =
+        |seed| raw_lines(&form(seed)).first().and_then(|raw| Line::from_raw(raw).type_byte());
+    let seen: BTreeSet<u8> = (0..20_000).filter_map(first).collect();
+    assert!((0x54..=0x5e).all(|type_byte| seen.contains(&type_byte)));
+}
+
+#[test]
+fn a_talk_tells_a_program_that_answers_at_once_from_one_that_waits_for_the_end() {
+    let station = env!("CARGO_BIN_EXE_second_station");
+    for seed in 0..20 {
+        let fault = talk(station, &session(seed, 40), Duration::from_secs(5));
+        assert!(fault.is_none(), "{fault:?}");
+    }
+    let waiting = env!("CARGO_BIN_EXE_second_resave");
+    let fault = talk(waiting, b"10010000010101\n60\n", Duration::from_millis(200));
+    assert!(fault.is_some_and(|fault| fault.number == 1 && fault.got.is_empty()));
 }

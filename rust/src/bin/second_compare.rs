@@ -1,20 +1,34 @@
 //! Compares the two modes with each other and, where they are named, other
-//! programs with this library, over generated sessions and forms.
+//! programs with this library, over generated sessions and forms; and talks
+//! with a station program line by line.
 
 use second::gen::{form, session};
+use second::other::{run_other, talk, Fault};
 use second::program::{run_resave, run_station};
 use second::shrink::shrink;
 use second::station::Mode;
 use second::tally::Tally;
-use std::io::{Read, Write};
-use std::process::{Command, ExitCode, Stdio};
+use std::process::ExitCode;
 use std::time::{Duration, Instant};
 
 const USAGE: &str = "second_compare [--station PATH] [--resave PATH] [--first SEED] \
-[--sessions K] [--lines L] [--forms M]";
+[--sessions K] [--lines L] [--forms M] [--talk T]
+(--talk needs --station)";
 
 /// A program that runs longer than this on one input is taken to hang.
 const PATIENCE: Duration = Duration::from_secs(60);
+
+/// The same while an input is shrunk, which may take thousands of runs.
+const SHRINKING_PATIENCE: Duration = Duration::from_secs(2);
+
+/// No longer is an input shrunk; the shortest found by then is shown.
+const SHRINKING_TIME: Duration = Duration::from_secs(120);
+
+/// A line of a talk without answer after this time is taken to get none.
+const ANSWER_PATIENCE: Duration = Duration::from_secs(5);
+
+/// The sessions of talks are of about so many lines.
+const TALK_LINES: usize = 40;
 
 struct Options {
     station: Option<String>,
@@ -23,6 +37,13 @@ struct Options {
     sessions: u64,
     lines: usize,
     forms: u64,
+    talks: u64,
+}
+
+impl Options {
+    fn seeds(&self, count: u64) -> std::ops::Range<u64> {
+        self.first..self.first.saturating_add(count)
+    }
 }
 
 fn main() -> ExitCode {
@@ -31,17 +52,28 @@ fn main() -> ExitCode {
         return ExitCode::from(2);
     };
     let mut tally = Tally::default();
-    if !sessions_agree(&options, &mut tally) || !forms_agree(&options, &mut tally) {
+    let agree = sessions_agree(&options, &mut tally)
+        && forms_agree(&options, &mut tally)
+        && talks_agree(&options);
+    if !agree {
         return ExitCode::FAILURE;
     }
-    let (sessions, forms) = (options.sessions, options.forms);
-    println!("no difference in {sessions} sessions and {forms} forms; {}", tally.text());
+    let Options { sessions, forms, talks, .. } = options;
+    let counts = tally.text();
+    println!("no difference in {sessions} sessions, {forms} forms and {talks} talks; {counts}");
     ExitCode::SUCCESS
 }
 
 fn options(mut arguments: impl Iterator<Item = String>) -> Option<Options> {
-    let mut options =
-        Options { station: None, resave: None, first: 1, sessions: 0, lines: 400, forms: 0 };
+    let mut options = Options {
+        station: None,
+        resave: None,
+        first: 1,
+        sessions: 0,
+        lines: 400,
+        forms: 0,
+        talks: 0,
+    };
     while let Some(name) = arguments.next() {
         let value = arguments.next()?;
         match name.as_str() {
@@ -51,16 +83,17 @@ fn options(mut arguments: impl Iterator<Item = String>) -> Option<Options> {
             "--sessions" => options.sessions = value.parse().ok()?,
             "--lines" => options.lines = value.parse().ok()?,
             "--forms" => options.forms = value.parse().ok()?,
+            "--talk" => options.talks = value.parse().ok()?,
             _ => return None,
         }
     }
-    Some(options)
+    (options.talks == 0 || options.station.is_some()).then_some(options)
 }
 
 fn sessions_agree(options: &Options, tally: &mut Tally) -> bool {
     let definitions = |input: &[u8]| run_station(input, Mode::Definitions);
     let rows = |input: &[u8]| run_station(input, Mode::Rows);
-    for seed in options.first..options.first.saturating_add(options.sessions) {
+    for seed in options.seeds(options.sessions) {
         let input = session(seed, options.lines);
         let expected = tally.session(&input, Mode::Definitions);
         if rows(&input) != expected {
@@ -68,8 +101,8 @@ fn sessions_agree(options: &Options, tally: &mut Tally) -> bool {
             return false;
         }
         if let Some(path) = &options.station {
-            let other = |input: &[u8]| run_other(path, input);
-            if other(&input) != expected {
+            if run_other(path, &input, PATIENCE) != expected {
+                let other = |input: &[u8]| run_other(path, input, SHRINKING_PATIENCE);
                 show("session", seed, &input, "mode definitions", &definitions, path, &other);
                 return false;
             }
@@ -79,18 +112,18 @@ fn sessions_agree(options: &Options, tally: &mut Tally) -> bool {
 }
 
 fn forms_agree(options: &Options, tally: &mut Tally) -> bool {
-    for seed in options.first..options.first.saturating_add(options.forms) {
+    for seed in options.seeds(options.forms) {
         let input = form(seed);
         let expected = run_resave(&input);
         tally.form(&expected);
-        if !expected.starts_with(b"ff") && expected != input {
-            let same = |input: &[u8]| input.to_vec();
-            show("form", seed, &input, "this resave", &run_resave, "the form itself", &same);
+        if same_or_refused(&input) != expected {
+            let (run, same) = (&run_resave, &same_or_refused);
+            show("form", seed, &input, "this resave", run, "the form itself", same);
             return false;
         }
         if let Some(path) = &options.resave {
-            let other = |input: &[u8]| run_other(path, input);
-            if other(&input) != expected {
+            if run_other(path, &input, PATIENCE) != expected {
+                let other = |input: &[u8]| run_other(path, input, SHRINKING_PATIENCE);
                 show("form", seed, &input, "this resave", &run_resave, path, &other);
                 return false;
             }
@@ -99,12 +132,46 @@ fn forms_agree(options: &Options, tally: &mut Tally) -> bool {
     true
 }
 
+/// What is printed of a form is the form itself, unless it is refused.
+fn same_or_refused(input: &[u8]) -> Vec<u8> {
+    let printed = run_resave(input);
+    if printed.starts_with(b"ff") {
+        printed
+    } else {
+        input.to_vec()
+    }
+}
+
+/// The other station answers each line before the next one comes.
+fn talks_agree(options: &Options) -> bool {
+    let Some(path) = &options.station else { return true };
+    for seed in options.seeds(options.talks) {
+        if let Some(fault) = talk(path, &session(seed, TALK_LINES), ANSWER_PATIENCE) {
+            show_fault(seed, &fault, path);
+            return false;
+        }
+    }
+    true
+}
+
+fn show_fault(seed: u64, fault: &Fault, path: &str) {
+    println!("difference in the talk of seed {seed}, session of {TALK_LINES} lines");
+    println!("line {} did not get its answer, and only this, ahead of the next:", fault.number);
+    print_lines(if fault.line.is_empty() { b"(end of the input)\n" } else { &fault.line });
+    println!("output of mode definitions:");
+    print_lines(&fault.expected);
+    println!("output of {path} within {} s:", ANSWER_PATIENCE.as_secs());
+    print_lines(&fault.got);
+}
+
 type Run<'a> = &'a dyn Fn(&[u8]) -> Vec<u8>;
 
-/// Shrinks the input and prints what differs.
+/// Prints where a difference is, shrinks the input and prints what differs.
 fn show(sort: &str, seed: u64, input: &[u8], name: &str, run: Run, other: &str, other_run: Run) {
-    let shortest = shrink(input, &mut |input| run(input) != other_run(input));
     println!("difference in the {sort} of seed {seed}");
+    let start = Instant::now();
+    let in_time = || start.elapsed() < SHRINKING_TIME;
+    let shortest = shrink(input, &mut |input| in_time() && run(input) != other_run(input));
     println!("shortest input found, bytes other than text escaped:");
     print_lines(&shortest);
     println!("output of {name}:");
@@ -120,59 +187,5 @@ fn print_lines(bytes: &[u8]) {
         let cut = if shown.len() < text.len() { " (cut here)" } else { "" };
         let end = if text.len() == line.len() { " (no LF)" } else { "" };
         println!("  {}{cut}{end}", shown.escape_ascii());
-    }
-}
-
-/// The output of another program. What ends it badly is put after its output,
-/// so that it shows as a difference. A plain exit number is not judged: the
-/// paper says nothing about it, save that 101 is what a panic leaves.
-fn run_other(path: &str, input: &[u8]) -> Vec<u8> {
-    match try_other(path, input) {
-        Ok(output) => output,
-        Err(error) => format!("(could not run: {error})\n").into_bytes(),
-    }
-}
-
-fn try_other(path: &str, input: &[u8]) -> std::io::Result<Vec<u8>> {
-    let mut child = Command::new(path)
-        .stdin(Stdio::piped())
-        .stdout(Stdio::piped())
-        .stderr(Stdio::null())
-        .spawn()?;
-    let (stdin, stdout) = (child.stdin.take(), child.stdout.take());
-    std::thread::scope(|scope| {
-        // A program may stop reading early; a broken pipe is no fault here.
-        scope.spawn(move || stdin.map(|mut pipe| pipe.write_all(input)));
-        let reading = scope.spawn(move || {
-            let mut output = Vec::new();
-            stdout.map(|mut pipe| pipe.read_to_end(&mut output));
-            output
-        });
-        let ending = wait_for(&mut child)?;
-        let mut output = reading.join().unwrap_or_default();
-        output.extend(ending.as_bytes());
-        Ok(output)
-    })
-}
-
-/// Waits for the end; gives words for a bad one.
-fn wait_for(child: &mut std::process::Child) -> std::io::Result<&'static str> {
-    let start = Instant::now();
-    let mut pause = Duration::from_micros(100);
-    loop {
-        if let Some(status) = child.try_wait()? {
-            return Ok(match status.code() {
-                None => "(ended by a signal)\n",
-                Some(101) => "(ended by a panic)\n",
-                Some(_) => "",
-            });
-        }
-        if start.elapsed() > PATIENCE {
-            child.kill()?;
-            child.wait()?;
-            return Ok("(did not end)\n");
-        }
-        std::thread::sleep(pause);
-        pause = (pause * 2).min(Duration::from_millis(5));
     }
 }
