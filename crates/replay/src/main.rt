@@ -80,7 +80,7 @@ fn finish(space: &mut [u32], pending: &mut [u8], part: Played) -> Waiting
     }
 }
 
-// A title, put out as it stands: the next station begins with zeros.
+// A title, put out as it was kept: the next station begins with zeros.
 fn turn(space: &mut [u32], title: &[u8], pending: &mut [u8], part: Played) -> Played
     requires { ⌜ HasRoom (part .waiting .count) (now pending) × (length (now title) ≤ longestAnswer) ⌝ }
     ensures { λ r. ⌜ ((r .playing, (now (space .exit), (r .waiting .count, now (pending .exit))))
