@@ -12,7 +12,7 @@ use Rattle.meaning.specs.Table.{Header, Table, inRange, isTable, opened}
 use Rattle.meaning.specs.Refusals.{Frame, Local, refusalOfFrame, refusalOfLocal, refusalOfSettling, settlingRefusals, issuedBy, firstOf, openingRefusals}
 use Rattle.meaning.specs.Questions.{Asked}
 use Rattle.meaning.specs.Calls as meaning
-use Rattle.meaning.specs.Calls.{Outcome, outcome, afterArrival, withRows, rowsSettled, meant}
+use Rattle.meaning.specs.Calls.{outcome, afterArrival, withRows, rowsSettled, meant}
 use Rattle.meaning.specs.History as history
 use Rattle.meaning.specs.History.{Event, Station, after, afterAll, afterOutcome, afterSettling, reached}
 use Rattle.meaning.proofs.Tests.{cases}

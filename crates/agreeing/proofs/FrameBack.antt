@@ -24,9 +24,7 @@ use Rattle.checked.specs.Checked.{Checked}
 use Rattle.checked.proofs.Checking.{checked}
 use Rattle.hexes.specs.Hex.{hexLine}
 use Rattle.hexes.specs.Numbers.{AllBytes}
-use Rattle.hexes.specs.declared.Decoded.the-variants.{Bytes}
 use Rattle.hexes.proofs.Bytes.{all-bytes-drop}
-use Rattle.hexes.proofs.Spelling.{line-reads-back}
 use Rattle.shapes.specs.Reading.{fieldsRead, hasShape, padded}
 use Rattle.shapes.specs.Shapes.{Fitting, read, lengthOf}
 use Rattle.lines.specs.declared.Operation as lines

@@ -1,15 +1,14 @@
 -- Each number of a line of a form is given exactly when its condition holds.
-use mathlib.Core.Path.{_≡_, refl, sym, ap, _∙_, subst}
+use mathlib.Core.Path.{_≡_, refl, sym, ap, _∙_}
 use mathlib.Core.Bool.{Bool, true, false, not, _&&_, cond, false≢true}
-use mathlib.Core.List.{List, [], _∷_, map}
-use Prim.Native.Nat.{ℕ, suc, _+_, _*_}
-use native.Mathlib.Omega.{arith}
+use mathlib.Core.List.{List, [], _∷_}
+use Prim.Native.Nat.{ℕ, _+_, _*_}
 use lib.Dec.{eqb, leb}
 use lib.ListN.{length, replicate, set}
-use borrow.Author.Tests.{eq-eqb, eqb-true, eqb-false, ne-eqb}
+use borrow.Author.Tests.{eqb-true, eqb-false}
 use Rattle.meaning.specs.Tests.{between}
-use Rattle.meaning.specs.Refusals.{Refusal, _when_, firstOf}
-use Rattle.meaning.proofs.Tests.{and-left, and-right, cases}
+use Rattle.meaning.specs.Refusals.{_when_, firstOf}
+use Rattle.meaning.proofs.Tests.{and-right, cases}
 use Rattle.layout.specs.Layout.{countIn, holdsTable, sizeIn}
 use Rattle.hexes.specs.Choice.{pick}
 use Rattle.hexes.specs.Decoding.{isLine, pairs}
@@ -19,9 +18,7 @@ use Rattle.lines.specs.Types.{headOf, isOf, opening}
 use Rattle.lines.specs.Named.{countOf}
 use Rattle.saved.specs.Named.{closingRead, rowRead}
 use Rattle.heard.specs.Hearing.{bytesOf, typeOf}
-use Rattle.spoken.specs.declared.Opened.{Opened}
 use Rattle.spoken.specs.declared.Opened.the-variants as opened
-use Rattle.spoken.specs.Spoken.{openedBy}
 use Rattle.taking.specs.declared.Loaded.{Loaded}
 use Rattle.taking.specs.declared.Loaded.the-variants as loaded
 use Rattle.joining.specs.Joining.{joined, joins, rowSaid}

@@ -1,6 +1,6 @@
 -- A table that is saved and loaded goes on with its history.
 use mathlib.Core.Path.{_≡_, refl, sym, ap, _∙_, subst}
-use mathlib.Core.Bool.{Bool, true, false}
+use mathlib.Core.Bool.{true, false}
 use mathlib.Core.List.{List, [], _∷_, _++_, map}
 use Prim.Native.Nat.{ℕ, _≤_}
 use lib.ListN.{drop, length}
@@ -10,9 +10,8 @@ use Rattle.meaning.specs.Table.{Header, Table, inRange, isTable}
 use Rattle.meaning.specs.Calls as meaning
 use Rattle.meaning.specs.History.{Event, Station, afterAll, reached}
 use Rattle.meaning.proofs.Agreement.{Within}
-use Rattle.layout.specs.Layout.{capacityIn, holdsTable, rowsIn, sizeIn, spaceFor, tableOf, wordsOf}
+use Rattle.layout.specs.Layout.{capacityIn, rowsIn, sizeIn, spaceFor, tableOf, wordsOf}
 use Rattle.allowing.specs.Asking.{askedFrom}
-use Rattle.checked.specs.Checked.{Checked}
 use Rattle.checked.proofs.Checking.{checked}
 use Rattle.arrivals.proofs.Kept.{laid-back, laid-held}
 use Rattle.hexes.specs.Choice.{pick}
@@ -26,13 +25,12 @@ use Rattle.telling.specs.Telling.{refusalBytes, replyBytes}
 use Rattle.answering.specs.Answering.{questionAnswer}
 use Rattle.spoken.specs.Spoken.{headerRead}
 use Rattle.taking.specs.declared.Loaded.{Loaded}
-use Rattle.taking.specs.declared.Loaded.the-variants as loaded
 use Rattle.loading.specs.Loading.{loadedAll, loadedBy, underLoad}
 use Rattle.restoring.specs.Restoring.{loads}
 use Rattle.restoring.proofs.RoundTrip as restoring
 use Rattle.calls.specs.Answers.{answerOf}
 use Rattle.agreeing.specs.Station.{eventsOf, eventsOfAll, wordsAfter}
-use Rattle.agreeing.specs.Lines.{OpenedBy, acceptedBy, callsOf, meantAnswer}
+use Rattle.agreeing.specs.Lines.{OpenedBy, callsOf, meantAnswer}
 use Rattle.agreeing.proofs.Calling.{Holds, after-both, opening-in-range, reply-agrees, reply-meant, rows-agree}
 use Rattle.agreeing.proofs.Lines.{line-accepted, next-holds, opened-fresh, opened-holds, question-on}
 -- a form that loads is the form that its table saves, and two tables with the same form are the same table

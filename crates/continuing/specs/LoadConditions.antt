@@ -12,7 +12,7 @@ use Rattle.rules.specs.TableTests.{clockIn, kindsIn}
 use Rattle.clockrules.specs.ClockTests.{lastKept, totalKept}
 use Rattle.hexes.specs.Choice.{pick}
 use Rattle.saved.specs.Named.{clockRead, closingRead, lastRead, rowRead, totalRead}
-use Rattle.heard.specs.Hearing.{bytesOf, typeOf}
+use Rattle.heard.specs.Hearing.{typeOf}
 use Rattle.taking.specs.declared.Loaded.{Loaded}
 use Rattle.taking.specs.declared.Loaded.the-variants as loaded
 use Rattle.joining.specs.Joining.{joined, joins, rowSaid}

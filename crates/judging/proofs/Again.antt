@@ -5,7 +5,7 @@ use mathlib.Core.List.{List, [], _∷_, _++_, map}
 use Prim.Native.Nat.{ℕ, _≤_}
 use lib.ListN.{drop, length}
 use Rattle.meaning.specs.Table.{Table, isTable}
-use Rattle.layout.specs.Layout.{holdsTable, spaceFor, tableOf, wordsOf}
+use Rattle.layout.specs.Layout.{spaceFor, wordsOf}
 use Rattle.arrivals.proofs.Kept.{laid-back, laid-held}
 use Rattle.hexes.specs.Hex.{hexLine}
 use Rattle.forms.specs.Forms.{savedForm}

@@ -4,16 +4,16 @@ use mathlib.Core.List.{List, [], _∷_, _++_, map, append-assoc, append-nil}
 use Prim.Native.Nat.{ℕ, suc, _+_, _-_, _*_, _≤_, _<_}
 use native.Mathlib.Nat.{mul-le-mul-right, suc-mul}
 use native.Mathlib.Omega.{arith}
-use lib.ListN.{length, take, drop, set, replicate, length-append, length-map, length-replicate}
+use lib.ListN.{length, take, drop, set, replicate, length-append, length-map}
 use lib.Seq.{paste, take-at, drop-at}
 use Rattle.meaning.specs.Rows.{Row}
 use Rattle.meaning.specs.Table.{Table}
 use Rattle.meaning.specs.Calls.{withRows}
-use Rattle.layout.specs.Words.{flat, padded}
-use Rattle.layout.specs.Layout.{wordsOf, frontWords, rowsWords, rowWords, rowWidth, rowsAt}
+use Rattle.layout.specs.Words.{flat}
+use Rattle.layout.specs.Layout.{wordsOf, frontWords, rowWords, rowWidth, rowsAt}
 use Rattle.layout.proofs.Pieces.{length-flat}
 use Rattle.layout.proofs.Whole.{length-front, wide-rows, zeros-drop}
-use Rattle.layout.proofs.Reading.{Well, short}
+use Rattle.layout.proofs.Reading.{short}
 use Rattle.restoring.proofs.Setting.{pasted}
 use Rattle.restoring.proofs.Under.{Fresh}
 

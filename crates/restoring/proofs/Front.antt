@@ -1,18 +1,18 @@
 -- The lines of a form ahead of its rows, given to the space that its opening line left.
 use mathlib.Core.Path.{_≡_, refl, sym, ap, ap₂, _∙_, subst}
-use mathlib.Core.Bool.{Bool, true, false, not, _&&_, cond, false≢true}
-use mathlib.Core.List.{List, [], _∷_, _++_, map}
-use Prim.Native.Nat.{ℕ, zero, suc, _+_, _-_, _*_, _≤_, _<_}
+use mathlib.Core.Bool.{Bool, true, false, not, _&&_, cond}
+use mathlib.Core.List.{List, [], _∷_, map}
+use Prim.Native.Nat.{ℕ, zero, suc, _+_, _-_, _≤_, _<_}
 use native.Mathlib.Omega.{arith}
-use lib.Dec.{eqb, leb, ltb}
+use lib.Dec.{eqb, leb}
 use lib.IntN.{ℤ, pos, negsuc, natAbs}
-use lib.ListN.{getD, length, take, drop, set, replicate, length-replicate, getD-replicate, drop-of-length-le}
+use lib.ListN.{getD, length, drop, replicate, length-replicate, getD-replicate, drop-of-length-le}
 use lib.Seq.{drop-cons}
 use borrow.Author.Tests.{eq-eqb, eqb-true, eqb-false, ne-eqb, le-leb, lt-leb, lt-ltb, le-ltb, leb-true, leb-false}
 use Rattle.meaning.specs.Order.{Vector, atMost, same}
 use Rattle.meaning.specs.Operations.{isCounter}
 use Rattle.meaning.specs.Rows.{Row}
-use Rattle.meaning.specs.Table.{Header, Table, isTable, kindIn, lastRule, totalRule, totalBound, opened, zeros}
+use Rattle.meaning.specs.Table.{Table, isTable, kindIn, lastRule, totalRule, totalBound, opened, zeros}
 use Rattle.meaning.proofs.Tests.{cases, and-left, and-right}
 use Rattle.meaning.proofs.Vectors.{same-eq}
 use Rattle.meaning.proofs.TableFacts.{Facts, HeaderFacts, facts, header-facts}
@@ -22,7 +22,6 @@ use Rattle.layout.proofs.RowWords.{Shaped}
 use Rattle.layout.proofs.Reading.{InRange, Well}
 use Rattle.arrivals.proofs.Kept.{well-table}
 use Rattle.clockrules.specs.ClockTests.{lastKept, totalKept}
-use Rattle.hexes.specs.Choice.{pick}
 use Rattle.hexes.specs.Hex.{hexLine}
 use Rattle.hexes.specs.Numbers.{AllBytes}
 use Rattle.lines.specs.Types.{clock, lastVector, total}
@@ -33,10 +32,8 @@ use Rattle.saved.specs.Named.{clockRead, lastRead, totalRead}
 use Rattle.formlines.specs.FormLines.{clockLine, lastLine, totalLine}
 use Rattle.forms.specs.Forms.{linesOf, lastLines, totalLines}
 use Rattle.forms.specs.Seeking.{counterAt, otherAt}
-use Rattle.forms.specs.declared.Sought.the-variants as sought
 use Rattle.forms.proofs.Short.{clock-short, last-short, total-short}
 use Rattle.forms.proofs.ReadsBack.{clock-back, last-back, last-known, total-back}
-use Rattle.loading.specs.declared.Next.{Next}
 use Rattle.loading.specs.declared.Next.the-variants as next
 use Rattle.taking.specs.declared.Loaded.the-variants as loaded
 use Rattle.loading.specs.Loading.{behindLasts, loadedBy, nextAfter}

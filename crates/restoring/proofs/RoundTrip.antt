@@ -1,21 +1,20 @@
 -- Loading what a table wrote gives that table back.
 use mathlib.Core.Path.{_≡_, refl, sym, ap, _∙_, subst}
-use mathlib.Core.Bool.{Bool, true, false, not, _&&_, _||_, cond, false≢true}
+use mathlib.Core.Bool.{Bool, true, false, _&&_}
 use mathlib.Core.List.{List, [], _∷_, _++_, map, append-assoc, append-nil, List·Memᴰ, List·Memᴰ·head, List·Memᴰ·tail}
-use Prim.Native.Nat.{ℕ, zero, suc, _+_, _-_, _*_, _≤_, _<_}
+use Prim.Native.Nat.{ℕ, suc, _+_, _-_, _≤_, _<_}
 use native.Mathlib.Omega.{arith}
 use lib.Dec.{eqb, leb}
 use borrow.Author.Tests.{le-ltb}
-use lib.ListN.{getD, length, take, drop, set, replicate, length-replicate, length-append, length-map}
+use lib.ListN.{getD, length, drop, replicate, length-replicate, length-append, length-map}
 use Rattle.meaning.specs.Rows.{Row}
 use Rattle.meaning.specs.Tests.{every}
 use Rattle.meaning.specs.Table.{Header, Table, isTable, kindIn, opened, rowRule, tableRules}
 use Rattle.meaning.specs.Refusals.{openingRefusals}
-use Rattle.meaning.specs.Calls.{Opening, fresh, openTable}
+use Rattle.meaning.specs.Calls.{fresh, openTable}
 use Rattle.meaning.proofs.Tests.{and-left, and-right, rule-at}
-use Rattle.meaning.proofs.TableFacts.{Facts, HeaderFacts, facts, header-facts}
-use Rattle.layout.specs.Words as words
-use Rattle.layout.specs.Layout.{rowOf, rowWords, rowWidth, spaceFor, wordsOf}
+use Rattle.meaning.proofs.TableFacts.{Facts, facts}
+use Rattle.layout.specs.Layout.{rowOf, rowWords, spaceFor, wordsOf}
 use Rattle.layout.proofs.Pieces.{Each, map-back}
 use Rattle.layout.proofs.RowWords.{Shaped, row-read}
 use Rattle.layout.proofs.Whole.{length-padded}
@@ -24,7 +23,6 @@ use Rattle.arrivals.proofs.Kept.{well-table}
 use Rattle.rowrules.specs.RowTests.{chained, follows, rowKept}
 use Rattle.rowrules.proofs.RowMeaning.{rule-kept}
 use Rattle.rowrules.proofs.Ordering.{Readable, sorted-chain}
-use Rattle.ranges.specs.Headers.{headerOf}
 use Rattle.hexes.specs.Hex.{digitOf, digitsOf, hexLine, isDigit, valueOf}
 use Rattle.hexes.specs.Decoding.{pairOf}
 use Rattle.hexes.specs.Choice.{pick}
@@ -120,9 +118,6 @@ closing-first n = refl
 module _ (t : Table) (is : isTable t ≡ true) (rest : List ℕ) where
   F : Facts t
   F = facts t is
-
-  H : HeaderFacts (t .header)
-  H = header-facts (t .header) (F .header-in-range)
 
   W : Well t
   W = well-table t is

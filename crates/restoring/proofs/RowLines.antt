@@ -5,24 +5,22 @@ use mathlib.Core.List.{List, [], _∷_, _++_, map, append-assoc}
 use Prim.Native.Nat.{ℕ, zero, suc, _+_, _-_, _*_, _/_, _%_, _≤_, _<_}
 use native.Mathlib.Nat.{mul-le-mul-right}
 use native.Mathlib.Omega.{arith}
-use lib.Dec.{eqb, leb, ltb}
-use lib.ListN.{getD, length, take, drop, set, replicate, length-append, length-map}
-use lib.Seq.{paste, take-at, drop-at, drop-drop, drop-set-lt}
-use borrow.Author.Tests.{eq-eqb, eqb-true, eqb-false, lt-ltb}
+use lib.Dec.{eqb, leb}
+use lib.ListN.{getD, length, take, drop, set, replicate, length-map}
+use lib.Seq.{paste, drop-at, drop-drop, drop-set-lt}
+use borrow.Author.Tests.{eq-eqb, eqb-false, lt-ltb}
 use Rattle.meaning.specs.Operations.{numberOf}
 use Rattle.meaning.specs.Rows.{Row}
 use Rattle.meaning.specs.Table.{Table, isTable}
 use Rattle.meaning.specs.Calls.{withRows}
 use Rattle.meaning.proofs.Tests.{cases}
 use Rattle.layout.specs.Words as words
-use Rattle.layout.specs.Words.{flat, pieces, wordLimit}
-use Rattle.layout.specs.Layout.{wordsOf, frontWords, rowsWords, rowWords, rowWidth, rowsAt, sizeIn, countIn, capacityIn, holdsTable}
-use Rattle.layout.proofs.Pieces.{Wide, pieces-at, length-flat}
+use Rattle.layout.specs.Words.{flat, pieces}
+use Rattle.layout.specs.Layout.{wordsOf, frontWords, rowsWords, rowWords, rowWidth, rowsAt, countIn, holdsTable}
+use Rattle.layout.proofs.Pieces.{pieces-at}
 use Rattle.layout.proofs.Whole.{length-front, length-padded, wide-rows}
 use Rattle.layout.proofs.Reading.{short}
-use Rattle.layout.proofs.RowWords.{Shaped}
 use Rattle.arrivals.proofs.Kept.{laid-held}
-use Rattle.rules.specs.TableTests.{clockIn, kindsIn}
 use Rattle.rowrules.specs.RowTests.{follows, rowKept}
 use Rattle.hexes.specs.Choice.{pick}
 use Rattle.shapes.specs.Reading as shapes
@@ -31,14 +29,13 @@ use Rattle.saved.specs.declared.Closing.{Closing}
 use Rattle.saved.specs.Named.{closingRead, rowRead}
 use Rattle.heard.specs.Hearing.{bytesOf}
 use Rattle.formlines.proofs.Parts.{piece-at}
-use Rattle.taking.specs.declared.Loaded.{Loaded}
 use Rattle.taking.specs.declared.Loaded.the-variants as loaded
 use Rattle.loading.specs.declared.Next.the-variants as next
 use Rattle.joining.specs.Joining.{joined, joins, lastRow, rowPlace, rowSaid}
 use Rattle.taking.specs.Taking.{closed, finished, rowOrClosing, rowTaken, spoilt}
 use Rattle.loading.specs.Loading.{loadedBy, nextAfter, takenAs, waits}
 use Rattle.restoring.proofs.Setting.{paste-set, set-set, set-swap}
-use Rattle.restoring.proofs.Under.{Fresh, under, size-is, capacity-is, count-is, kinds-are, clock-is, room, taken-by}
+use Rattle.restoring.proofs.Under.{Fresh, under, size-is, count-is, kinds-are, clock-is, room, taken-by}
 use Rattle.restoring.proofs.Steps.{front-of}
 use Rattle.restoring.proofs.Appending.{row-behind}
 

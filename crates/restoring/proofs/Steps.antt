@@ -1,23 +1,21 @@
 -- What one line of a form makes of a space under load.
 use mathlib.Core.Path.{_≡_, refl, sym, ap, _∙_}
-use mathlib.Core.Bool.{Bool, true, false, _&&_}
+use mathlib.Core.Bool.{true, _&&_}
 use mathlib.Core.List.{List, [], _∷_, _++_}
 use Prim.Native.Nat.{ℕ, suc, _+_, _-_, _*_, _/_, _%_, _≤_, _<_}
 use native.Mathlib.Nat.{mul-le-mul-right}
 use native.Mathlib.Omega.{arith}
 use lib.Dec.{eqb}
 use lib.IntN.{ℤ}
-use lib.ListN.{getD, length, take, drop, set, replicate, length-append}
+use lib.ListN.{getD, length, take, set, replicate}
 use lib.Seq.{paste, take-at}
 use borrow.Author.Tests.{eq-eqb}
 use Rattle.meaning.specs.Order.{Vector}
 use Rattle.meaning.specs.Table.{Table, totalBound}
 use Rattle.layout.specs.Words.{wordLimit, complement, ofComplement}
-use Rattle.layout.specs.Layout.{Laid, tableOf, wordsOf, rewritten, withClock, withLast, withTotals, totalWords, totalOfWords, spaceFor, sizeIn, ownIn, objectsIn}
-use Rattle.layout.proofs.Reading.{InRange, Well, table-read, total-read}
-use Rattle.layout.proofs.Changing.{Sized, laid-again, put-clock, put-last, put-total}
-use Rattle.layout.proofs.RowWords.{high-of, low-of}
-use Rattle.rules.specs.TableTests.{clockIn, kindsIn}
+use Rattle.layout.specs.Layout.{Laid, tableOf, wordsOf, rewritten, withClock, withLast, withTotals, totalWords, totalOfWords, sizeIn}
+use Rattle.layout.proofs.Reading.{InRange, table-read, total-read}
+use Rattle.layout.proofs.Changing.{laid-again, put-clock, put-last, put-total}
 use Rattle.clockrules.specs.ClockTests.{lastKept, totalKept}
 use Rattle.hexes.specs.Choice.{pick}
 use Rattle.shapes.specs.Reading as shapes
@@ -26,9 +24,7 @@ use Rattle.saved.specs.declared.LastVector.{LastVector}
 use Rattle.saved.specs.declared.Total.{Total}
 use Rattle.saved.specs.Named.{clockRead, lastRead, totalRead}
 use Rattle.heard.specs.Hearing.{bytesOf}
-use Rattle.taking.specs.declared.Loaded.{Loaded}
 use Rattle.taking.specs.declared.Loaded.the-variants as loaded
-use Rattle.loading.specs.declared.Next.{Next}
 use Rattle.loading.specs.declared.Next.the-variants as next
 use Rattle.taking.specs.Taking.{clockTaken, lastTaken, spoilt, took, totalTaken}
 use Rattle.loading.specs.Loading.{loadedBy, nextAfter, takenAs, waits}
@@ -61,10 +57,6 @@ module _ (t : Table) (F : Fresh t) (rest : List ℕ) (p : ℕ) (line : List ℕ)
   size-plain : sizeIn plain ≡ size
   unfolding wordsOf
   size-plain = refl
-
-  objects-plain : objectsIn plain ≡ length (t .header .kinds)
-  unfolding wordsOf
-  objects-plain = refl
 
   no-rows : eqb (length (t .rows)) 0 ≡ true
   no-rows = eq-eqb (length (t .rows)) 0 none

@@ -36,7 +36,7 @@ use Rattle.formlines.specs.FormLines.{clockLine, lastLine, totalLine}
 use Rattle.taking.specs.declared.Loaded.{Loaded}
 use Rattle.taking.specs.declared.Loaded.the-variants as loaded
 use Rattle.loading.specs.declared.Next.the-variants as next
-use Rattle.taking.specs.Taking.{clockTaken, lastTaken, spoilt, took, totalTaken}
+use Rattle.taking.specs.Taking.{clockTaken, lastTaken, spoilt, totalTaken}
 use Rattle.loading.specs.Loading.{loadedBy, nextAfter, takenAs, waits}
 use Rattle.restoring.specs.Restoring.{loads}
 use Rattle.restoring.proofs.Under.{Fresh, under, size-is, own-is, kinds-are, clock-is, taken-by}

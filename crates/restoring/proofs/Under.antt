@@ -1,25 +1,22 @@
 -- A space under load: a table record written in it, and how far the load has come.
 use mathlib.Core.Path.{_≡_, refl, sym, ap, ap₂, _∙_, subst}
-use mathlib.Core.Bool.{Bool, true, _&&_}
-use mathlib.Core.List.{List, [], _∷_, _++_}
-use Prim.Native.Nat.{ℕ, suc, _+_, _≤_, _<_}
+use mathlib.Core.Bool.{true, _&&_}
+use mathlib.Core.List.{List, _++_}
+use Prim.Native.Nat.{ℕ, suc, _≤_, _<_}
 use native.Mathlib.Omega.{arith}
-use lib.Dec.{eqb, leb, ltb}
+use lib.Dec.{eqb, ltb}
 use lib.ListN.{getD, length, take, drop, set, length-set}
 use lib.Seq.{paste, drop-set-lt, drop-at}
 use borrow.Author.Tests.{le-leb, lt-ltb}
-use Rattle.meaning.specs.Tests.{allHold, between, every}
-use Rattle.meaning.specs.Order.{Vector}
-use Rattle.meaning.specs.Table.{Header, Table, inRange, headerRules}
+use Rattle.meaning.specs.Tests.{between, every}
+use Rattle.meaning.specs.Table.{Table, inRange, headerRules}
 use Rattle.meaning.proofs.Tests.{and-left, and-right, between-in}
 use Rattle.meaning.proofs.TableFacts.{HeaderFacts, header-facts}
 use Rattle.layout.specs.Layout.{Laid, tableMark, tableOf, wordsOf, rewritten, beyond, spaceFor, sizeIn, ownIn, capacityIn, objectsIn, countIn}
 use Rattle.layout.proofs.Reading.{Well, table-read}
 use Rattle.layout.proofs.Changing.{Sized, laid-again, words-long}
 use Rattle.rules.specs.TableTests.{clockIn, kindsIn, sizesKept}
-use Rattle.hexes.specs.Choice.{pick}
 use Rattle.heard.specs.Hearing.{bytesOf}
-use Rattle.taking.specs.declared.Loaded.{Loaded}
 use Rattle.taking.specs.declared.Loaded.the-variants as loaded
 use Rattle.loading.specs.declared.Next.{Next}
 use Rattle.loading.specs.declared.Next.the-variants as next
