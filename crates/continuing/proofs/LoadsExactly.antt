@@ -25,7 +25,7 @@ use Rattle.joining.specs.Joining.{joined, joins, rowSaid}
 use Rattle.taking.specs.Taking.{clockTaken, closed, finished, lastTaken, rowOrClosing, rowTaken, spoilt, took, totalTaken}
 use Rattle.loading.specs.declared.Next.{Next}
 use Rattle.loading.specs.declared.Next.the-variants as next
-use Rattle.loading.specs.Loading.{begun, firstTaken, loadEnded, loadedBy, nextIn, takenAs, underLoad}
+use Rattle.loading.specs.Loading.{begun, firstTaken, loadEnded, loadedBy, nextIn, savedType, takenAs, underLoad}
 use Rattle.agreeing.specs.Conditions.{isLineOf, openConditions, openResult}
 use Rattle.calls.proofs.Answering.{starts-type}
 use Rattle.agreeing.proofs.ExactlyWhen.{Exactly, exactly, open-told}
@@ -56,7 +56,7 @@ module _ (line words : List ℕ) where
   unfolding loadedBy firstTaken beginConditions between openConditions
   begin-told u = rw u (cases (eqb (typeOf line) 16)
       (λ q. rw (q, eqb-true (typeOf line) 16 q) (ap begun (open-told line words) ∙ begun-as (firstOf (openConditions line words))))
-      (λ q. rw q (by (between 80 95 (typeOf line)) (eqb-false (typeOf line) 16 q))))
+      (λ q. rw q (by (savedType (typeOf line)) (eqb-false (typeOf line) 16 q))))
     where
       other : (typeOf line ≡ 16 → ⊥) → isLineOf opening (countOf (bytesOf line)) line ≡ false
       other n = cases (isLineOf opening (countOf (bytesOf line)) line) (λ e. absurd (n (opening-type line (countOf (bytesOf line)) e))) (λ e. e)

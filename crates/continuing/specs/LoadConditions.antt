@@ -4,7 +4,6 @@ use mathlib.Core.List.{List, [], _∷_}
 use Prim.Native.Nat.{ℕ, _+_, _*_}
 use lib.Dec.{eqb, leb}
 use lib.ListN.{getD, replicate, length, set, take}
-use Rattle.meaning.specs.Tests.{between}
 use Rattle.meaning.specs.Table.{totalBound}
 use Rattle.meaning.specs.Refusals.{Refusal, _when_}
 use Rattle.layout.specs.Layout.{clockAt, countIn, holdsTable, lastAt, ownIn, sizeIn, totalOfWords, totalsAt}
@@ -19,7 +18,7 @@ use Rattle.joining.specs.Joining.{joined, joins, rowSaid}
 use Rattle.taking.specs.Taking.{took}
 use Rattle.loading.specs.declared.Next.{Next}
 use Rattle.loading.specs.declared.Next.the-variants as next
-use Rattle.loading.specs.Loading.{underLoad}
+use Rattle.loading.specs.Loading.{savedType, underLoad}
 use Rattle.agreeing.specs.Conditions.{openConditions, openResult}
 
 -- The number of an answer, 0 where it is no refusal.
@@ -30,7 +29,7 @@ numberOfLoaded loaded.Table = 0
 
 -- No load is under way: "a saved line comes when no load is under way (15)", else "its opening line; if that gets 1 or 13".
 unfoldable pub beginConditions : List ℕ → List ℕ → List Refusal
-beginConditions line words = (15 when between 80 95 (typeOf line)) ∷ openConditions line words
+beginConditions line words = (15 when savedType (typeOf line)) ∷ openConditions line words
 
 -- The fresh table, with one line taken.
 unfoldable pub beginResult : List ℕ → List ℕ → Loaded × List ℕ

@@ -42,7 +42,7 @@ use Rattle.taking.specs.Taking.{clockTaken, closed, finished, lastTaken, progre
 use Rattle.taking.proofs.Words.{passed, picked}
 use Rattle.loading.specs.declared.Next.{Next}
 use Rattle.loading.specs.declared.Next.the-variants as next
-use Rattle.loading.specs.Loading.{begun, behindLasts, firstTaken, headLoads, loadWaits, loadedBy, nextAfter, nextIn, takenAs, underLoad, waits}
+use Rattle.loading.specs.Loading.{begun, behindLasts, firstTaken, headLoads, loadWaits, loadedBy, nextAfter, nextIn, savedType, takenAs, underLoad, waits}
 use Rattle.loading.proofs.Nexts.{load-head, load-object, load-station, load-waits}
 
 -- words in front of a place stay
@@ -323,7 +323,7 @@ module _ (line s : List ℕ) where
 
   first-on : GoesOn (firstTaken line s)
   unfolding firstTaken
-  first-on = by (eqb (typeOf line) 16) (between 80 95 (typeOf line)) (begun (openedBy line s)) begun-on
+  first-on = by (eqb (typeOf line) 16) (savedType (typeOf line)) (begun (openedBy line s)) begun-on
     where
       by : (b c : Bool) (p : Loaded × List ℕ) → GoesOn p → GoesOn (pick b p (pick c (loaded.Refused 15, s) (loaded.Refused 1, s)))
       by true c p h = h

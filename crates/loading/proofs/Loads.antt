@@ -7,7 +7,6 @@ use native.Mathlib.Omega.{arith}
 use borrow.Author.Tests.{eq-eqb, ne-eqb}
 use lib.Dec.{eqb}
 use lib.ListN.{drop, length, set, take}
-use Rattle.meaning.specs.Tests.{between}
 use Rattle.meaning.specs.Table.{Table}
 use Rattle.meaning.specs.Calls as meaning
 use Rattle.meaning.proofs.Tests.{between-in, between-out, fails}
@@ -26,7 +25,7 @@ use Rattle.taking.specs.Taking.{clockTaken, lastTaken, rowOrClosing, spoilt, to
 use Rattle.taking.proofs.Words.{passed, picked}
 use Rattle.loading.specs.declared.Next.{Next}
 use Rattle.loading.specs.declared.Next.the-variants as next
-use Rattle.loading.specs.Loading.{begun, firstTaken, loadEnded, loadedBy, nextIn, takenAs, underLoad}
+use Rattle.loading.specs.Loading.{begun, firstTaken, loadEnded, loadedBy, nextIn, savedType, takenAs, underLoad}
 
 -- by what comes next
 module _ (s bytes : List ℕ) (n : Next) (e : n ≡ nextIn s) (r : Loaded) (x : List ℕ) where
@@ -94,21 +93,21 @@ module _ (line s : List ℕ) (o : Opened) (x : List ℕ) (e : (o, x) ≡ openedB
 module _ (line s : List ℕ) (byte : ℕ) (e : byte ≡ typeOf line) where
   pub first-opening : byte ≡ 16 → (r : Loaded) (x : List ℕ) → (r, x) ≡ begun (openedBy line s) → (r, x) ≡ firstTaken line s
   unfolding firstTaken
-  first-opening h r x g = g ∙ sym (picked (eqb (typeOf line) 16) (begun (openedBy line s)) (pick (between 80 95 (typeOf line)) (loaded.Refused 15, s) (loaded.Refused 1, s)) (eq-eqb (typeOf line) 16 (sym e ∙ h)))
+  first-opening h r x g = g ∙ sym (picked (eqb (typeOf line) 16) (begun (openedBy line s)) (pick (savedType (typeOf line)) (loaded.Refused 15, s) (loaded.Refused 1, s)) (eq-eqb (typeOf line) 16 (sym e ∙ h)))
 
   module _ (d : byte ≡ 16 → ⊥) where
-    other : pick (between 80 95 (typeOf line)) (loaded.Refused 15, s) (loaded.Refused 1, s) ≡ firstTaken line s
+    other : pick (savedType (typeOf line)) (loaded.Refused 15, s) (loaded.Refused 1, s) ≡ firstTaken line s
     unfolding firstTaken
-    other = sym (passed (eqb (typeOf line) 16) (begun (openedBy line s)) (pick (between 80 95 (typeOf line)) (loaded.Refused 15, s) (loaded.Refused 1, s)) (ne-eqb (typeOf line) 16 (λ q. d (e ∙ q))))
+    other = sym (passed (eqb (typeOf line) 16) (begun (openedBy line s)) (pick (savedType (typeOf line)) (loaded.Refused 15, s) (loaded.Refused 1, s)) (ne-eqb (typeOf line) 16 (λ q. d (e ∙ q))))
 
     pub first-below : byte < 80 → (loaded.Refused 1, s) ≡ firstTaken line s
-    first-below h = sym (passed (between 80 95 (typeOf line)) (loaded.Refused 15, s) (loaded.Refused 1, s) (fails (between 80 95 (typeOf line)) (λ t. absurd (omega (arith, e, between-out 80 95 (typeOf line) t .0))))) ∙ other
+    first-below h = sym (passed (savedType (typeOf line)) (loaded.Refused 15, s) (loaded.Refused 1, s) (fails (savedType (typeOf line)) (λ t. absurd (omega (arith, e, between-out 80 95 (typeOf line) t .0))))) ∙ other
 
     pub first-above : 95 < byte → (loaded.Refused 1, s) ≡ firstTaken line s
-    first-above h = sym (passed (between 80 95 (typeOf line)) (loaded.Refused 15, s) (loaded.Refused 1, s) (fails (between 80 95 (typeOf line)) (λ t. absurd (omega (arith, e, between-out 80 95 (typeOf line) t .1))))) ∙ other
+    first-above h = sym (passed (savedType (typeOf line)) (loaded.Refused 15, s) (loaded.Refused 1, s) (fails (savedType (typeOf line)) (λ t. absurd (omega (arith, e, between-out 80 95 (typeOf line) t .1))))) ∙ other
 
     pub first-saved : 80 ≤ byte → byte ≤ 95 → (loaded.Refused 15, s) ≡ firstTaken line s
-    first-saved l h = sym (picked (between 80 95 (typeOf line)) (loaded.Refused 15, s) (loaded.Refused 1, s) (between-in 80 95 (typeOf line) (omega (arith, e)) (omega (arith, e)))) ∙ other
+    first-saved l h = sym (picked (savedType (typeOf line)) (loaded.Refused 15, s) (loaded.Refused 1, s) (between-in 80 95 (typeOf line) (omega (arith, e)) (omega (arith, e)))) ∙ other
 
 -- the next line, and the end
 module _ (s : List ℕ) (u : Bool) (e : u ≡ underLoad s) where

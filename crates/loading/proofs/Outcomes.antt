@@ -5,7 +5,6 @@ use mathlib.Core.List.{List, [], _∷_}
 use Prim.Native.Nat.{ℕ, _+_, _*_}
 use lib.Dec.{eqb, leb}
 use lib.ListN.{getD, length, replicate, set, take}
-use Rattle.meaning.specs.Tests.{between}
 use Rattle.meaning.specs.Table.{totalBound}
 use Rattle.meaning.specs.Calls as meaning
 use Rattle.meaning.proofs.Tests.{cases, clash, fails}
@@ -28,7 +27,7 @@ use Rattle.taking.specs.Taking.{clockTaken, closed, finished, lastTaken, rowOrC
 use Rattle.taking.proofs.Words.{passed, picked}
 use Rattle.loading.specs.declared.Next.{Next}
 use Rattle.loading.specs.declared.Next.the-variants as next
-use Rattle.loading.specs.Loading.{begun, firstTaken, loadEnded, loadedBy, nextIn, takenAs, underLoad, waits}
+use Rattle.loading.specs.Loading.{begun, firstTaken, loadEnded, loadedBy, nextIn, savedType, takenAs, underLoad, waits}
 use Rattle.loading.proofs.Nexts.{load-waits, next-none}
 
 -- under load: a wrong line gets 15 and leaves zeros, a table is one by the rules
@@ -111,7 +110,7 @@ module _ (line s : List ℕ) where
 
   first-left : Left s (firstTaken line s)
   unfolding firstTaken
-  first-left = by (eqb (typeOf line) 16) (between 80 95 (typeOf line)) (begun (openedBy line s)) begun-left
+  first-left = by (eqb (typeOf line) 16) (savedType (typeOf line)) (begun (openedBy line s)) begun-left
     where
       by : (b c : Bool) (p : Loaded × List ℕ) → Left s p → Left s (pick b p (pick c (loaded.Refused 15, s) (loaded.Refused 1, s)))
       by true c p h = h

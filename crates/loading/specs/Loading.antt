@@ -9,7 +9,7 @@ use Rattle.meaning.specs.Table.{greatestKind}
 use Rattle.layout.specs.Layout.{capacityIn, countIn, holdsTable, objectsIn, ownIn, sizeIn, spaceFor, tableMark}
 use Rattle.rules.specs.TableTests.{kindsIn, sizesKept}
 use Rattle.hexes.specs.Choice.{pick}
-use Rattle.lines.specs.Types.{opening}
+use Rattle.lines.specs.Types.{clock, closing, opening}
 use Rattle.heard.specs.Hearing.{bytesOf, typeOf}
 use Rattle.forms.specs.declared.Sought.{Sought}
 use Rattle.forms.specs.declared.Sought.the-variants as sought
@@ -77,11 +77,15 @@ unfoldable pub begun : Opened × List ℕ → Loaded × List ℕ
 begun (opened.Refused number, words) = (loaded.Refused number, words)
 begun (opened.Fresh, words) = (loaded.Taken, set words 6 1)
 
--- "or a saved line comes when no load is under way (15), nothing is written": types `50` to `5f`; any other type is no opening's (1).
+-- "Lines of type `50` to `5f`": saved lines.
+abbrev pub savedType : ℕ → Bool
+savedType type = between (clock .typeByte) (closing .typeByte) type
+
+-- "or a saved line comes when no load is under way (15), nothing is written"; any other type is no opening's (1).
 unfoldable pub firstTaken : List ℕ → List ℕ → Loaded × List ℕ
 firstTaken line words =
     pick (eqb (typeOf line) (opening .typeByte)) (begun (openedBy line words))
-    (pick (between 80 95 (typeOf line)) (loaded.Refused 15, words) (loaded.Refused 1, words))
+    (pick (savedType (typeOf line)) (loaded.Refused 15, words) (loaded.Refused 1, words))
 
 -- The next line of a form to a space.
 unfoldable pub loadedBy : List ℕ → List ℕ → Loaded × List ℕ

@@ -8,7 +8,6 @@ use native.Mathlib.Omega.{arith}
 use lib.Dec.{eqb}
 use lib.ListN.{length, drop, length-drop}
 use borrow.Author.Tests.{eqb-true}
-use Rattle.meaning.specs.Tests.{between}
 use Rattle.meaning.specs.Refusals.{firstOf, openingRefusals}
 use Rattle.meaning.specs.Table.{Header, inRange, opened}
 use Rattle.meaning.specs.Calls as meaning
@@ -25,7 +24,7 @@ use Rattle.formlines.specs.FormLines.{openingLine}
 use Rattle.spoken.specs.Spoken.{headerRead, openedAs, openedBy}
 use Rattle.spoken.proofs.Opening.{open-ranges, open-room}
 use Rattle.taking.specs.declared.Loaded.{Loaded}
-use Rattle.loading.specs.Loading.{begun, firstTaken, loadedBy, underLoad}
+use Rattle.loading.specs.Loading.{begun, firstTaken, loadedBy, savedType, underLoad}
 use Rattle.restoring.proofs.Under.{Fresh}
 use Rattle.restoring.proofs.Front.{fresh-opened}
 use Rattle.restoring.proofs.Heard.{heard-bytes, line-said}
@@ -75,6 +74,6 @@ module _ (line words : List ℕ) (idle : underLoad words ≡ false) where
       }))
       (λ some. inl (ap (λ (o : Loaded × List ℕ). refused (o .0)) first ∙ rw (type, ok, some) refl)))
       (λ bad. inl (ap (λ (o : Loaded × List ℕ). refused (o .0)) first ∙ rw (type, bad) refl)))
-      (λ other. cases (between 80 95 (typeOf line))
+      (λ other. cases (savedType (typeOf line))
       (λ saved. inl (ap (λ (o : Loaded × List ℕ). refused (o .0)) first ∙ rw (other, saved) refl))
       (λ none. inl (ap (λ (o : Loaded × List ℕ). refused (o .0)) first ∙ rw (other, none) refl)))
