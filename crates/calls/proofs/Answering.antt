@@ -9,34 +9,34 @@ use lib.Dec.{eqb, leb}
 use lib.ListN.{drop, length}
 use Rattle.meaning.specs.Table.{isTable}
 use Rattle.meaning.proofs.Tests.{and-right, cases}
-use Rattle.layout.specs.Layout.{holdsTable, tableOf}
-use Rattle.checked.proofs.Checking.{checked}
-use Rattle.hexes.specs.Choice.{pick}
-use Rattle.hexes.specs.Hex.{hexLine, isDigit}
-use Rattle.hexes.specs.Decoding.{byteOf, isLine, pairOf, pairs, typeOfPair}
-use Rattle.hexes.specs.declared.Pair.the-variants.{Byte, Other}
-use Rattle.shapes.specs.Reading.{hasShape, startsWith}
-use Rattle.shapes.specs.Shapes.{lengthOf}
-use Rattle.writing.specs.Writing.{lineWritten}
-use Rattle.writing.specs.declared.Written.{Written}
-use Rattle.writing.specs.declared.Written.the-variants as written
-use Rattle.writing.proofs.Whole.{length-hex-line}
-use Rattle.lines.specs.Types.{isOf, refused}
-use Rattle.lines.specs.Named.{printingRead}
-use Rattle.printed.specs.Printed.{printed}
-use Rattle.telling.specs.Telling.{refusalBytes}
-use Rattle.telling.proofs.Short.{refusal-long}
-use Rattle.forms.specs.Forms.{formedOf, lineAt, lineInto, savedForm}
-use Rattle.forms.proofs.Short.{Short, form-short}
-use Rattle.saving.specs.Saving.{savedAs, savedBy, savedOn}
-use Rattle.saving.specs.declared.Saved.{Saved}
-use Rattle.saving.specs.declared.Saved.the-variants as saved
-use Rattle.spoken.specs.declared.Opened.{Opened}
-use Rattle.spoken.specs.Spoken.{openedBy}
-use Rattle.answering.specs.Answering.{answerOn, openedBytes, toldAfter}
-use Rattle.answering.proofs.Choosing.{told}
-use Rattle.answering.proofs.Short.{answer-short, opened-short, refusal-short}
-use Rattle.heard.specs.Hearing.{byteOfType, bytesOf, typeOf}
+use Rattle.words_layout.specs.Layout.{holdsTable, tableOf}
+use Rattle.table_checked.proofs.Checking.{checked}
+use Rattle.line_hex.specs.Choice.{pick}
+use Rattle.line_hex.specs.Hex.{hexLine, isDigit}
+use Rattle.line_hex.specs.Decoding.{byteOf, isLine, pairOf, pairs, typeOfPair}
+use Rattle.line_hex.specs.declared.Pair.the-variants.{Byte, Other}
+use Rattle.line_shape.specs.Reading.{hasShape, startsWith}
+use Rattle.line_shape.specs.Shapes.{lengthOf}
+use Rattle.line_put.specs.Writing.{lineWritten}
+use Rattle.line_put.specs.declared.Written.{Written}
+use Rattle.line_put.specs.declared.Written.the-variants as written
+use Rattle.line_put.proofs.Whole.{length-hex-line}
+use Rattle.line_read.specs.Types.{isOf, refused}
+use Rattle.line_read.specs.Named.{printingRead}
+use Rattle.line_print.specs.Printed.{printed}
+use Rattle.call_question.specs.Telling.{refusalBytes}
+use Rattle.call_question.proofs.Short.{refusal-long}
+use Rattle.form_write.specs.Forms.{formedOf, lineAt, lineInto, savedForm}
+use Rattle.form_write.proofs.Short.{Short, form-short}
+use Rattle.form_save.specs.Saving.{savedAs, savedBy, savedOn}
+use Rattle.form_save.specs.declared.Saved.{Saved}
+use Rattle.form_save.specs.declared.Saved.the-variants as saved
+use Rattle.call_checked.specs.declared.Opened.{Opened}
+use Rattle.call_checked.specs.Spoken.{openedBy}
+use Rattle.call_answer.specs.Answering.{answerOn, openedBytes, toldAfter}
+use Rattle.call_answer.proofs.Choosing.{told}
+use Rattle.call_answer.proofs.Short.{answer-short, opened-short, refusal-short}
+use Rattle.line_hear.specs.Hearing.{byteOfType, bytesOf, typeOf}
 use Rattle.calls.specs.declared.Answered.{Answered}
 use Rattle.calls.specs.declared.Answered.the-variants as answered
 use Rattle.calls.specs.Answers.{answeredBy, answerOf, linesFor, printedAt, spaceAfter}

@@ -5,13 +5,13 @@ use mathlib.Core.List.{List, [], _∷_}
 use Prim.Native.Nat.{ℕ, _≤_}
 use native.Mathlib.Omega.{arith}
 use lib.ListN.{length}
-use Rattle.layout.specs.Layout.{holdsTable, tableOf}
-use Rattle.checked.proofs.Checking.{checked}
-use Rattle.hexes.specs.Choice.{pick}
-use Rattle.lines.specs.Named.{printingRead}
-use Rattle.heard.specs.Hearing.{bytesOf}
-use Rattle.forms.specs.Forms.{savedForm}
-use Rattle.forms.proofs.Count.{form-count}
+use Rattle.words_layout.specs.Layout.{holdsTable, tableOf}
+use Rattle.table_checked.proofs.Checking.{checked}
+use Rattle.line_hex.specs.Choice.{pick}
+use Rattle.line_read.specs.Named.{printingRead}
+use Rattle.line_hear.specs.Hearing.{bytesOf}
+use Rattle.form_write.specs.Forms.{savedForm}
+use Rattle.form_write.proofs.Count.{form-count}
 use Rattle.calls.specs.Answers.{answerOf, linesFor}
 
 pub lines-count : (line words : List ℕ) → length (linesFor line words) ≤ 562

@@ -11,17 +11,17 @@ use Rattle.meaning.specs.Calls as meaning
 use Rattle.meaning.specs.Calls.{withRows, rowsSettled, steps}
 use Rattle.meaning.proofs.Settling.{steps-are-fall}
 use Rattle.meaning.proofs.TableRules.{kept-by-settling}
-use Rattle.layout.specs.Layout.{holdsTable, tableOf}
-use Rattle.checked.specs.Checked.{Checked}
-use Rattle.checked.proofs.Checking.{checked}
-use Rattle.arrivals.proofs.Kept.{table-back}
-use Rattle.hexes.specs.Choice.{pick}
-use Rattle.lines.specs.Named.{settlingRead}
-use Rattle.heard.specs.Hearing.{bytesOf}
-use Rattle.spoken.specs.declared.Settled.{Settled}
-use Rattle.spoken.specs.declared.Settled.the-variants as settled
-use Rattle.spoken.specs.Spoken.{settledAs, settledOn}
-use Rattle.spoken.proofs.Settling.{limit-read, heard-bytes}
+use Rattle.words_layout.specs.Layout.{holdsTable, tableOf}
+use Rattle.table_checked.specs.Checked.{Checked}
+use Rattle.table_checked.proofs.Checking.{checked}
+use Rattle.arrival.proofs.Kept.{table-back}
+use Rattle.line_hex.specs.Choice.{pick}
+use Rattle.line_read.specs.Named.{settlingRead}
+use Rattle.line_hear.specs.Hearing.{bytesOf}
+use Rattle.call_checked.specs.declared.Settled.{Settled}
+use Rattle.call_checked.specs.declared.Settled.the-variants as settled
+use Rattle.call_checked.specs.Spoken.{settledAs, settledOn}
+use Rattle.call_checked.proofs.Settling.{limit-read, heard-bytes}
 use Rattle.calls.specs.Calls.{fallen, settledBy}
 use Rattle.calls.proofs.Tested.{settle-table, settle-no-table}
 

@@ -3,18 +3,18 @@ use mathlib.Core.Path.{_≡_, refl, sym, _∙_}
 use mathlib.Core.Bool.{Bool, true, false}
 use mathlib.Core.List.{List}
 use Prim.Native.Nat.{ℕ}
-use Rattle.layout.specs.Layout.{holdsTable}
-use Rattle.checked.specs.Checked.{Checked}
-use Rattle.checked.proofs.Checking.{checked}
-use Rattle.asks.specs.declared.Reply.{Reply}
-use Rattle.asks.specs.declared.Reply.the-variants as reply
-use Rattle.spoken.specs.declared.Issued.{Issued}
-use Rattle.spoken.specs.declared.Issued.the-variants as issued
-use Rattle.spoken.specs.declared.Received.{Received}
-use Rattle.spoken.specs.declared.Received.the-variants as received
-use Rattle.spoken.specs.declared.Settled.{Settled}
-use Rattle.spoken.specs.declared.Settled.the-variants as settled
-use Rattle.spoken.specs.Spoken.{issuedOn, receivedOn, repliedOn, settledOn}
+use Rattle.words_layout.specs.Layout.{holdsTable}
+use Rattle.table_checked.specs.Checked.{Checked}
+use Rattle.table_checked.proofs.Checking.{checked}
+use Rattle.question.specs.declared.Reply.{Reply}
+use Rattle.question.specs.declared.Reply.the-variants as reply
+use Rattle.call_checked.specs.declared.Issued.{Issued}
+use Rattle.call_checked.specs.declared.Issued.the-variants as issued
+use Rattle.call_checked.specs.declared.Received.{Received}
+use Rattle.call_checked.specs.declared.Received.the-variants as received
+use Rattle.call_checked.specs.declared.Settled.{Settled}
+use Rattle.call_checked.specs.declared.Settled.the-variants as settled
+use Rattle.call_checked.specs.Spoken.{issuedOn, receivedOn, repliedOn, settledOn}
 use Rattle.calls.specs.Calls.{issuedBy, receivedBy, repliedBy, settledBy}
 
 -- a space that was found to hold a table

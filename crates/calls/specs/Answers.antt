@@ -4,16 +4,16 @@ use mathlib.Core.List.{List, [], _∷_, _++_}
 use Prim.Native.Nat.{ℕ, zero, suc}
 use lib.Dec.{eqb}
 use lib.ListN.{drop, length}
-use Rattle.layout.specs.Layout.{holdsTable, tableOf}
-use Rattle.hexes.specs.Choice.{pick}
-use Rattle.hexes.specs.Hex.{hexLine}
-use Rattle.lines.specs.Types.{opening}
-use Rattle.lines.specs.Named.{printingRead}
-use Rattle.heard.specs.Hearing.{bytesOf, typeOf}
-use Rattle.forms.specs.Forms.{savedForm}
-use Rattle.telling.specs.Telling.{refusalBytes}
-use Rattle.spoken.specs.Spoken.{openedBy}
-use Rattle.answering.specs.Answering.{answerOn, changing, isType, openedBytes}
+use Rattle.words_layout.specs.Layout.{holdsTable, tableOf}
+use Rattle.line_hex.specs.Choice.{pick}
+use Rattle.line_hex.specs.Hex.{hexLine}
+use Rattle.line_read.specs.Types.{opening}
+use Rattle.line_read.specs.Named.{printingRead}
+use Rattle.line_hear.specs.Hearing.{bytesOf, typeOf}
+use Rattle.form_write.specs.Forms.{savedForm}
+use Rattle.call_question.specs.Telling.{refusalBytes}
+use Rattle.call_checked.specs.Spoken.{openedBy}
+use Rattle.call_answer.specs.Answering.{answerOn, changing, isType, openedBytes}
 use Rattle.calls.specs.declared.Answered.{Answered}
 use Rattle.calls.specs.declared.Answered.the-variants as answered
 

@@ -3,17 +3,17 @@ use mathlib.Core.Path.{_≡_}
 use mathlib.Core.List.{List}
 use Prim.Native.Nat.{ℕ, _+_}
 use Rattle.meaning.specs.Rows.{unsettledCount}
-use Rattle.layout.specs.Layout.{holdsTable, tableOf}
-use Rattle.asks.specs.declared.Reply.{Reply}
-use Rattle.asks.specs.declared.Reply.the-variants as reply
-use Rattle.hexes.specs.Choice.{pick}
-use Rattle.spoken.specs.declared.Issued.{Issued}
-use Rattle.spoken.specs.declared.Issued.the-variants as issued
-use Rattle.spoken.specs.declared.Received.{Received}
-use Rattle.spoken.specs.declared.Received.the-variants as received
-use Rattle.spoken.specs.declared.Settled.{Settled}
-use Rattle.spoken.specs.declared.Settled.the-variants as settled
-use Rattle.spoken.specs.Spoken.{issuedOn, receivedOn, repliedOn, settledOn}
+use Rattle.words_layout.specs.Layout.{holdsTable, tableOf}
+use Rattle.question.specs.declared.Reply.{Reply}
+use Rattle.question.specs.declared.Reply.the-variants as reply
+use Rattle.line_hex.specs.Choice.{pick}
+use Rattle.call_checked.specs.declared.Issued.{Issued}
+use Rattle.call_checked.specs.declared.Issued.the-variants as issued
+use Rattle.call_checked.specs.declared.Received.{Received}
+use Rattle.call_checked.specs.declared.Received.the-variants as received
+use Rattle.call_checked.specs.declared.Settled.{Settled}
+use Rattle.call_checked.specs.declared.Settled.the-variants as settled
+use Rattle.call_checked.specs.Spoken.{issuedOn, receivedOn, repliedOn, settledOn}
 
 -- "A frame passes 14, 1 to 7, 8": on any space.
 unfoldable pub receivedBy : List ℕ → List ℕ → Received × List ℕ

@@ -1,6 +1,6 @@
 -- How a line that was written is told.
-use Rattle.writing.specs.declared.Written.{Written}
-use Rattle.writing.specs.declared.Written.the-variants as written
+use Rattle.line_put.specs.declared.Written.{Written}
+use Rattle.line_put.specs.declared.Written.the-variants as written
 use Rattle.calls.specs.declared.Answered.{Answered}
 use Rattle.calls.specs.declared.Answered.the-variants as answered
 

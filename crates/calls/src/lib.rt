@@ -1,23 +1,23 @@
 // The public calls over a lent table space and a lent line. Each tries its refusals in 01's order, and a refusal changes nothing.
 ghost use mathlib.Core.Path.{_≡_};
-ghost use Rattle.spoken.specs.Spoken.{openedBy};
+ghost use Rattle.call_checked.specs.Spoken.{openedBy};
 ghost use mathlib.Core.List.{[], _∷_};
 ghost use Prim.Native.Nat.{_≤_};
 ghost use lib.ListN.{length};
-ghost use Rattle.heard.specs.Hearing.{typeOf};
-ghost use Rattle.saving.specs.Saving.{savedBy};
-ghost use Rattle.telling.specs.Telling.{refusalBytes};
-ghost use Rattle.answering.specs.Answering.{frameRoom, toldAfter};
+ghost use Rattle.line_hear.specs.Hearing.{typeOf};
+ghost use Rattle.form_save.specs.Saving.{savedBy};
+ghost use Rattle.call_question.specs.Telling.{refusalBytes};
+ghost use Rattle.call_answer.specs.Answering.{frameRoom, toldAfter};
 ghost use Rattle.calls.specs.Calls.{fallen, issuedBy, receivedBy, repliedBy, settledBy};
 ghost use Rattle.calls.specs.Answers.{answeredBy, answerOf, linesFor, longestAnswer, printedAt};
 ghost use Rattle.calls.specs.Told.{lineOrEnd};
-use asks::Reply;
-use saving::Saved;
-use spoken::Issued;
-use spoken::Opened;
-use spoken::Received;
-use spoken::Settled;
-use writing::Written;
+use question::Reply;
+use form_save::Saved;
+use call_checked::Issued;
+use call_checked::Opened;
+use call_checked::Received;
+use call_checked::Settled;
+use line_put::Written;
 
 // The space holds no table.
 const NO_TABLE: u32 = 14;
@@ -26,15 +26,15 @@ const NO_TABLE: u32 = 14;
 pub fn open(space: &mut [u32], line: &[u8]) -> Opened
     ensures { λ r. ⌜ (r, now (space .exit)) ≡ openedBy (now (line .entry)) (now (space .entry)) ⌝ }
 {
-    spoken::open_line(space, line)
+    call_checked::open_line(space, line)
 }
 
 // "A frame passes 14, 1 to 7, 8".
 pub fn receive(space: &mut [u32], line: &[u8]) -> Received
     ensures { λ r. ⌜ (r, now (space .exit)) ≡ receivedBy (now (line .entry)) (now (space .entry)) ⌝ }
 {
-    if rules::is_table(space) {
-        return spoken::receive_line(space, line);
+    if table_rules::is_table(space) {
+        return call_checked::receive_line(space, line);
     }
     Received::Refused(NO_TABLE)
 }
@@ -43,8 +43,8 @@ pub fn receive(space: &mut [u32], line: &[u8]) -> Received
 pub fn issue(space: &mut [u32], line: &[u8], out: &mut [u8]) -> Issued
     ensures { λ r. ⌜ (r, (now (space .exit), now (out .exit))) ≡ issuedBy (now (line .entry)) (now (space .entry)) (now (out .entry)) ⌝ }
 {
-    if rules::is_table(space) {
-        return spoken::issue_line(space, line, out);
+    if table_rules::is_table(space) {
+        return call_checked::issue_line(space, line, out);
     }
     Issued::Refused(NO_TABLE)
 }
@@ -53,8 +53,8 @@ pub fn issue(space: &mut [u32], line: &[u8], out: &mut [u8]) -> Issued
 pub fn settle(space: &mut [u32], line: &[u8]) -> Settled
     ensures { λ r. ⌜ ((r, now (space .exit)) ≡ settledBy (now (line .entry)) (now (space .entry))) × fallen r (now (space .entry)) (now (space .exit)) ⌝ }
 {
-    if rules::is_table(space) {
-        return spoken::settle_line(space, line);
+    if table_rules::is_table(space) {
+        return call_checked::settle_line(space, line);
     }
     Settled::Refused(NO_TABLE)
 }
@@ -63,8 +63,8 @@ pub fn settle(space: &mut [u32], line: &[u8]) -> Settled
 pub fn ask(space: &[u32], line: &[u8], out: &mut [u32]) -> Reply
     ensures { λ r. ⌜ (r, now (out .exit)) ≡ repliedBy (now (line .entry)) (now (space .entry)) (now (out .entry)) ⌝ }
 {
-    if rules::is_table(space) {
-        return spoken::ask_line(space, line, out);
+    if table_rules::is_table(space) {
+        return call_checked::ask_line(space, line, out);
     }
     Reply::Refused(NO_TABLE)
 }
@@ -73,8 +73,8 @@ pub fn ask(space: &[u32], line: &[u8], out: &mut [u32]) -> Reply
 pub fn save_line(space: &[u32], line: &[u8], k: usize, out: &mut [u8]) -> Saved
     ensures { λ r. ⌜ (r, now (out .exit)) ≡ savedBy (now (line .entry)) (now (space .entry)) k (now (out .entry)) ⌝ }
 {
-    if rules::is_table(space) {
-        return saving::save_checked(space, line, k, out);
+    if table_rules::is_table(space) {
+        return form_save::save_checked(space, line, k, out);
     }
     Saved::Refused(NO_TABLE)
 }
@@ -100,14 +100,14 @@ fn answer_first(space: &mut [u32], line: &[u8], out: &mut [u8]) -> Written
     requires { ⌜ frameRoom ≤ length (now out) ⌝ }
     ensures { λ w. ⌜ (w, (now (space .exit), now (out .exit))) ≡ toldAfter (now (out .entry)) (answerOf (now (line .entry)) (now (space .entry))) ⌝ }
 {
-    let kind = heard::type_of(line);
-    if rules::is_table(space) {
-        return answering::answer_line(space, line, kind, out);
+    let kind = line_hear::type_of(line);
+    if table_rules::is_table(space) {
+        return call_answer::answer_line(space, line, kind, out);
     }
-    if kind == lines::OPENING {
-        return answering::tell_opened(spoken::open_line(space, line), out);
+    if kind == line_read::OPENING {
+        return call_answer::tell_opened(call_checked::open_line(space, line), out);
     }
-    printed::write_refusal(out, NO_TABLE)
+    line_print::write_refusal(out, NO_TABLE)
 }
 
 // A line that was written is the answer; none is too long for the space.
@@ -128,7 +128,7 @@ fn refuse_at(number: u32, k: usize, out: &mut [u8]) -> Answered
     if 0 < k {
         return Answered::End;
     }
-    line_or_end(printed::write_refusal(out, number))
+    line_or_end(line_print::write_refusal(out, number))
 }
 
 // The k-th line for a line of type `60`: of the saved form, or of a refusal.
@@ -147,7 +147,7 @@ fn answer_printing(space: &[u32], line: &[u8], k: usize, out: &mut [u8]) -> Answ
 pub fn answer(space: &mut [u32], line: &[u8], k: usize, out: &mut [u8; LONGEST_ANSWER]) -> Answered
     ensures { λ r. ⌜ (r, (now (space .exit), now (out .exit))) ≡ answeredBy (now (line .entry)) k (now (space .entry)) (now (out .entry)) ⌝ }
 {
-    if heard::type_of(line) == lines::PRINTING {
+    if line_hear::type_of(line) == line_read::PRINTING {
         return answer_printing(space, line, k, out);
     }
     if k == 0 {

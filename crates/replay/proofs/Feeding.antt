@@ -5,12 +5,12 @@ use mathlib.Core.List.{List}
 use native.Mathlib.Omega.{arith}
 use lib.ListN.{length, getD, take}
 use lib.Seq.{length-take-le}
-use Rattle.hexes.specs.Hex.{lf}
-use Rattle.hexes.specs.Keeping.{kept}
-use Rattle.keeping.specs.Feeding.{fed, heldFed, heldTaken, taken}
-use Rattle.keeping.proofs.Feeding as keeping
+use Rattle.line_hex.specs.Hex.{lf}
+use Rattle.line_hex.specs.Keeping.{kept}
+use Rattle.line_keep.specs.Feeding.{fed, heldFed, heldTaken, taken}
+use Rattle.line_keep.proofs.Feeding as keeping
 use Rattle.calls.specs.Answers.{longestAnswer}
-use Rattle.gathering.specs.Gathering.{HasRoom}
+use Rattle.program_output.specs.Gathering.{HasRoom}
 use Rattle.replay.specs.declared.Playing.{Playing}
 use Rattle.replay.specs.declared.Kept.{Kept}
 use Rattle.replay.specs.declared.More.{More}

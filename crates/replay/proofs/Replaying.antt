@@ -8,11 +8,11 @@ use borrow.Author.Tests.{eq-eqb, ne-eqb}
 use lib.Dec.{eqb}
 use lib.ListN.{length, getD, take, drop, replicate, drop-of-length-le}
 use lib.Seq.{length-take-le}
-use Rattle.hexes.specs.Choice.{pick}
-use Rattle.judging.specs.declared.Judged.{Judged}
-use Rattle.judging.specs.declared.Judged.the-variants as judged
-use Rattle.judging.specs.Judging.{judgedBy, judgedEnd}
-use Rattle.gathering.specs.Gathering.{Gathered, Held, pushed, replied, reprinted}
+use Rattle.line_hex.specs.Choice.{pick}
+use Rattle.form_judge.specs.declared.Judged.{Judged}
+use Rattle.form_judge.specs.declared.Judged.the-variants as judged
+use Rattle.form_judge.specs.Judging.{judgedBy, judgedEnd}
+use Rattle.program_output.specs.Gathering.{Gathered, Held, pushed, replied, reprinted}
 use Rattle.replay.specs.declared.Playing.{Playing}
 use Rattle.replay.specs.declared.Playing.the-variants as playing
 use Rattle.replay.specs.Replaying.{begins, dash, ended, formSign, isTitle, lastEnded, Part, played, replayed, turned}

@@ -3,7 +3,7 @@ use mathlib.Core.List.{List}
 use Prim.Native.Nat.{ℕ, _≤_}
 use lib.ListN.{length}
 use Rattle.calls.specs.Answers.{longestAnswer}
-use Rattle.gathering.specs.Gathering.{HasRoom}
+use Rattle.program_output.specs.Gathering.{HasRoom}
 use Rattle.replay.specs.declared.More.{More}
 use Rattle.replay.specs.declared.More.the-variants as more
 

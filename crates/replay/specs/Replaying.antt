@@ -4,10 +4,10 @@ use mathlib.Core.List.{List, [], _∷_}
 use Prim.Native.Nat.{ℕ}
 use lib.Dec.{eqb}
 use lib.ListN.{getD, length, replicate}
-use Rattle.hexes.specs.Choice.{pick}
-use Rattle.judging.specs.declared.Judged.the-variants as judged
-use Rattle.judging.specs.Judging.{judgedBy, judgedEnd}
-use Rattle.gathering.specs.Gathering.{Held, pushed, replied, reprinted}
+use Rattle.line_hex.specs.Choice.{pick}
+use Rattle.form_judge.specs.declared.Judged.the-variants as judged
+use Rattle.form_judge.specs.Judging.{judgedBy, judgedEnd}
+use Rattle.program_output.specs.Gathering.{Held, pushed, replied, reprinted}
 use Rattle.replay.specs.declared.Playing.{Playing}
 use Rattle.replay.specs.declared.Playing.the-variants as playing
 

@@ -3,15 +3,15 @@ ghost use mathlib.Core.Path.{_≡_};
 ghost use Prim.Native.Nat.{_≤_};
 ghost use lib.ListN.{length, take};
 ghost use Rattle.calls.specs.Answers.{longestAnswer};
-ghost use Rattle.gathering.specs.Gathering.{HasRoom};
-ghost use Rattle.keeping.specs.Feeding.{fed, heldFed, heldTaken, taken};
+ghost use Rattle.program_output.specs.Gathering.{HasRoom};
+ghost use Rattle.line_keep.specs.Feeding.{fed, heldFed, heldTaken, taken};
 ghost use Rattle.replay.specs.Replaying.{begins, ended, isTitle, lastEnded, played, replayed, turned};
 ghost use Rattle.replay.specs.Ready.{Ready, StillReady};
-use gathering::LINE;
-use gathering::MOST_WORDS;
-use gathering::PENDING;
-use gathering::Waiting;
-use judging::Judged;
+use program_output::LINE;
+use program_output::MOST_WORDS;
+use program_output::PENDING;
+use program_output::Waiting;
+use form_judge::Judged;
 
 // A title has these two ahead of it, and behind them this one where it starts a form.
 const DASH: u8 = b'-';
@@ -74,8 +74,8 @@ fn finish(space: &mut [u32], pending: &mut [u8], part: Played) -> Waiting
     match playing {
         Playing::Session => waiting,
         Playing::Form(known) => {
-            let whole = judging::judge_end(space, known);
-            gathering::print(space, whole, pending, waiting)
+            let whole = form_judge::judge_end(space, known);
+            program_output::print(space, whole, pending, waiting)
         }
     }
 }
@@ -88,9 +88,9 @@ fn turn(space: &mut [u32], title: &[u8], pending: &mut [u8], part: Played) -> Pl
         × HasRoom (r .waiting .count) (now (pending .exit)) ⌝ }
 {
     let last = finish(space, pending, part);
-    let after = gathering::push(pending, last, title);
+    let after = program_output::push(pending, last, title);
     let end = space.len();
-    moves::clear(space, 0, end);
+    words_moves::clear(space, 0, end);
     let next = begin(title);
     Played {
         playing: next,
@@ -109,14 +109,14 @@ fn play(space: &mut [u32], line: &[u8], pending: &mut [u8], part: Played) -> Pla
     let waiting = part.waiting;
     match playing {
         Playing::Session => {
-            let after = gathering::reply(space, line, pending, waiting);
+            let after = program_output::reply(space, line, pending, waiting);
             Played {
                 playing: Playing::Session,
                 waiting: after,
             }
         }
         Playing::Form(known) => {
-            let after = judging::judge(space, line, known);
+            let after = form_judge::judge(space, line, known);
             Played {
                 playing: Playing::Form(after),
                 waiting,
@@ -147,9 +147,9 @@ fn take(space: &mut [u32], line: &mut [u8], pending: &mut [u8], kept: Kept, b: u
         (kept .part .playing, (now (space .entry), (kept .part .waiting .count, now (pending .entry)))) b)
         × Ready (r .have) (r .part .waiting .count) (now (line .exit)) (now (pending .exit))) ⌝ }
 {
-    let have = hexes::keep(line, kept.have, b);
+    let have = line_hex::keep(line, kept.have, b);
     let part = kept.part;
-    if b != hexes::LF {
+    if b != line_hex::LF {
         return Kept { have, part };
     }
     let after = respond(space, &line[0..have], pending, part);
@@ -206,7 +206,7 @@ fn some(file: i32, space: &mut [u32], line: &mut [u8], pending: &mut [u8], from:
     let kept = feed(space, line, pending, from, &buffer[..n]);
     let part = kept.part;
     let playing = part.playing;
-    let waiting = gathering::flush(pending, part.waiting);
+    let waiting = program_output::flush(pending, part.waiting);
     More::Yes(Kept {
         have: kept.have,
         part: Played { playing, waiting },
@@ -306,5 +306,5 @@ fn main() {
     }
     let part = Played { playing, waiting };
     let last = end(&mut space, &line, &mut pending, Kept { have, part });
-    gathering::flush(&pending, last);
+    program_output::flush(&pending, last);
 }

@@ -4,16 +4,16 @@ use mathlib.Core.Path.{_≡_, refl, sym, ap, ap₂, subst, _∙_}
 use mathlib.Core.List.{List, [], _++_}
 use native.Mathlib.Omega.{arith}
 use lib.ListN.{getD, length, take}
-use Rattle.hexes.specs.Hex.{lf}
-use Rattle.hexes.specs.Keeping.{kept}
-use Rattle.ranges.specs.Spaces.{mostWords}
-use Rattle.keeping.specs.Feeding.{fed, Going, heldFed, heldTaken, LastPiece, taken, WholeLines}
-use Rattle.keeping.proofs.Feeding as keeping
-use Rattle.judging.specs.declared.Judged.{Judged}
-use Rattle.judging.specs.declared.Judged.the-variants as judged
-use Rattle.judging.specs.Judging.{Judging, judgedBy, judgedEnd}
-use Rattle.gathering.specs.Gathering.{Gathered, Held, reprinted}
-use Rattle.judging.proofs.Judging.{judged-alike}
+use Rattle.line_hex.specs.Hex.{lf}
+use Rattle.line_hex.specs.Keeping.{kept}
+use Rattle.table_ranges.specs.Spaces.{mostWords}
+use Rattle.line_keep.specs.Feeding.{fed, Going, heldFed, heldTaken, LastPiece, taken, WholeLines}
+use Rattle.line_keep.proofs.Feeding as keeping
+use Rattle.form_judge.specs.declared.Judged.{Judged}
+use Rattle.form_judge.specs.declared.Judged.the-variants as judged
+use Rattle.form_judge.specs.Judging.{Judging, judgedBy, judgedEnd}
+use Rattle.program_output.specs.Gathering.{Gathered, Held, reprinted}
+use Rattle.form_judge.proofs.Judging.{judged-alike}
 use Rattle.resave.specs.declared.Kept.{Kept}
 use Rattle.resave.specs.declared.More.{More}
 use Rattle.resave.specs.declared.More.the-variants as more

@@ -2,9 +2,9 @@
 use Prim.Native.Nat.{ℕ}
 use mathlib.Core.Path.{_≡_}
 use mathlib.Core.List.{List}
-use Rattle.judging.specs.Judging.{Judging, judgedBy, judgedEnd}
-use Rattle.gathering.specs.Gathering.{Gathered, Held, reprinted}
-use Rattle.keeping.specs.Feeding.{atEnd, fed, Going, heldFed, Keeps}
+use Rattle.form_judge.specs.Judging.{Judging, judgedBy, judgedEnd}
+use Rattle.program_output.specs.Gathering.{Gathered, Held, reprinted}
+use Rattle.line_keep.specs.Feeding.{atEnd, fed, Going, heldFed, Keeps}
 use Rattle.resave.specs.declared.More.{More}
 use Rattle.resave.specs.declared.More.the-variants as more
 

@@ -2,17 +2,17 @@
 ghost use mathlib.Core.Path.{_≡_};
 ghost use Prim.Native.Nat.{_≤_};
 ghost use lib.ListN.{length};
-ghost use Rattle.gathering.specs.Gathering.{HasRoom};
-ghost use Rattle.judging.specs.Judging.{judgedBy};
-ghost use Rattle.keeping.specs.Feeding.{fed, Going, heldFed, heldTaken, LastPiece, taken, WholeLines};
-ghost use Rattle.ranges.specs.Spaces.{mostWords};
+ghost use Rattle.program_output.specs.Gathering.{HasRoom};
+ghost use Rattle.form_judge.specs.Judging.{judgedBy};
+ghost use Rattle.line_keep.specs.Feeding.{fed, Going, heldFed, heldTaken, LastPiece, taken, WholeLines};
+ghost use Rattle.table_ranges.specs.Spaces.{mostWords};
 ghost use Rattle.resave.specs.Ending.{AfterRead, FormEnd, Read};
-ghost use Rattle.judging.specs.declared.Judged.the-variants.{Open};
-use gathering::LINE;
-use gathering::MOST_WORDS;
-use gathering::PENDING;
-use gathering::Waiting;
-use judging::Judged;
+ghost use Rattle.form_judge.specs.declared.Judged.the-variants.{Open};
+use program_output::LINE;
+use program_output::MOST_WORDS;
+use program_output::PENDING;
+use program_output::Waiting;
+use form_judge::Judged;
 use libc::STDIN_FILENO;
 
 // What is kept from one byte of input to the next: so many characters of a line, and what is known of the form.
@@ -28,12 +28,12 @@ fn take(space: &mut [u32], line: &mut [u8], kept: Kept, b: u8) -> Kept
         × (((r .known, now (space .exit)) ≡ heldTaken judgedBy (now (line .entry)) (kept .have) (kept .known, now (space .entry)) b)
         × (r .have ≤ length (now (line .exit)))) ⌝ }
 {
-    let have = hexes::keep(line, kept.have, b);
+    let have = line_hex::keep(line, kept.have, b);
     let known = kept.known;
-    if b != hexes::LF {
+    if b != line_hex::LF {
         return Kept { have, known };
     }
-    let after = judging::judge(space, &line[0..have], known);
+    let after = form_judge::judge(space, &line[0..have], known);
     Kept {
         have: 0,
         known: after,
@@ -115,7 +115,7 @@ fn last(space: &mut [u32], line: &[u8], kept: Kept) -> Judged
     if have == 0 {
         return known;
     }
-    judging::judge(space, &line[0..have], known)
+    form_judge::judge(space, &line[0..have], known)
 }
 
 // The input is at its end, which the closing line must have reached: the output lines of the form.
@@ -126,12 +126,12 @@ fn end(space: &mut [u32], line: &[u8], pending: &mut [u8], kept: Kept) -> Waitin
         × HasRoom (r .count) (now (pending .exit)) ⌝ }
 {
     let known = last(space, line, kept);
-    let whole = judging::judge_end(space, known);
+    let whole = form_judge::judge_end(space, known);
     let none = Waiting {
         count: 0,
         open: true,
     };
-    gathering::print(space, whole, pending, none)
+    program_output::print(space, whole, pending, none)
 }
 
 fn main() {
@@ -140,5 +140,5 @@ fn main() {
     let mut pending = [0u8; PENDING];
     let kept = read(&mut space, &mut line);
     let waiting = end(&mut space, &line, &mut pending, kept);
-    gathering::flush(&pending, waiting);
+    program_output::flush(&pending, waiting);
 }

@@ -1,3 +1,1 @@
-pub mod Turns
-pub mod Passing
-pub mod Looping
+pub mod Settled

@@ -1,97 +1,61 @@
-// Settling in lent words: rows are passed once, and each that is due is settled or dropped.
+// The settling call on a table that was checked: Low is found, and the rows are passed once.
 ghost use mathlib.Core.Path.{_≡_};
-ghost use mathlib.Core.List.{_++_, map};
-ghost use Prim.Native.Nat.{_+_, _*_, _≤_, _<_};
-ghost use lib.ListN.{length, take, drop};
-ghost use Rattle.meaning.specs.Rows.{settledRow};
-ghost use Rattle.layout.specs.Words.{flat, padded, pieces};
-ghost use Rattle.layout.specs.Layout.{rowOf, rowWidth, rowWords};
-ghost use Rattle.steps.specs.Held.{Held, rowsFrom};
-ghost use Rattle.settling.specs.Passing.{closedUp, placeLimit, rowsThen, stepsThen};
-use steps::Step;
-use tags::RowCount;
+ghost use Prim.Native.Nat.{_≤_};
+ghost use lib.ListN.{take, drop};
+ghost use Rattle.meaning.specs.Table.{low};
+ghost use Rattle.meaning.specs.Calls.{rowsSettled, steps, withRows};
+ghost use Rattle.words_layout.specs.Words.{padded};
+ghost use Rattle.words_layout.specs.Layout.{kindsAt, rewritten, sizeIn, tableOf};
+ghost use Rattle.table_change.specs.Changes.{Opened};
+ghost use Rattle.table_checked.specs.Checked.{Checked};
+use words_tags::RowCount;
+use words_tags::Station;
 
-// What a pass leaves: so many rows, after so many steps.
-pub struct Passed {
-    pub left: RowCount,
-    pub taken: RowCount,
+// A table has at most so many objects.
+const MOST_OBJECTS: usize = 32;
+
+// The words of the kinds, copied so that the rows can be lent beside them.
+fn kinds_of(s: &[u32]) -> [u32; MOST_OBJECTS]
+    requires { ⌜ Checked (now s) ⌝ }
+    ensures { λ r. ⌜ r ≡ take 32 (drop kindsAt (now (s .entry))) ⌝ }
+{
+    let mut kinds = [0u32; MOST_OBJECTS];
+    words_moves::put(&mut kinds, 0, &s[words_layout::KINDS_AT..words_layout::TOTALS_AT]);
+    kinds
 }
 
-// Settles a row where it stands: its tag is wiped.
-pub fn settle_row(rows: &mut [u32], at: usize, size: usize)
-    requires { ⌜ (at + rowWidth size ≤ length (now rows)) × (size ≤ 16) × (rowWords size (rowOf (take (rowWidth size) (drop at (now rows)))) ≡ take (rowWidth size) (drop at (now rows))) ⌝ }
-    ensures { λ _. ⌜ now (rows .exit) ≡ take at (now (rows .entry)) ++ (rowWords size (settledRow (rowOf (take (rowWidth size) (drop at (now (rows .entry)))) .operation)) ++ drop (at + rowWidth size) (now (rows .entry))) ⌝ }
+// Low of a table, with zeros behind it.
+fn low_in(s: &[u32], size: usize) -> [u32; settling_low::MOST_STATIONS]
+    requires { ⌜ Checked (now s) × (size ≡ sizeIn (now s)) × (size ≤ 16) ⌝ }
+    ensures { λ r. ⌜ r ≡ padded 16 (low (tableOf (now (s .entry)))) ⌝ }
 {
-    let start = at + layout::UNSETTLED_AT;
-    moves::clear(rows, start, at + layout::VECTOR_AT + size);
+    let end = words_layout::CLOCK_AT + size;
+    settling_low::low_of(
+        &s[words_layout::CLOCK_AT..end],
+        &s[end..],
+        Station(s[words_layout::OWN_AT]),
+    )
 }
 
-// Moves a run of words down to a place, with zeros where it left room.
-fn close_up(rows: &mut [u32], from: usize, to: usize, run: usize)
-    requires { ⌜ (to ≤ from) × (from + run ≤ length (now rows)) ⌝ }
-    ensures { λ _. ⌜ now (rows .exit) ≡ closedUp (now (rows .entry)) from to run ⌝ }
+// The settling call with the numbers of the head in hand.
+fn settle_opened(s: &mut [u32], size: usize, count: RowCount, limit: RowCount) -> RowCount
+    requires { ⌜ Checked (now s) × Opened (now s) size (count .0) ⌝ }
+    ensures { λ r. ⌜ (r .0 ≡ steps (tableOf (now (s .entry))) (limit .0)) × (now (s .exit) ≡ rewritten (now (s .entry)) (withRows (tableOf (now (s .entry))) (rowsSettled (tableOf (now (s .entry))) (limit .0)))) ⌝ }
 {
-    moves::copy_down(rows, run, from, to);
-    moves::clear(rows, to + run, from + run);
+    let kinds = kinds_of(s);
+    let low = low_in(s, size);
+    let base = words_layout::CLOCK_AT + size + size * size;
+    let passed = settling_pass::pass_rows(&mut s[base..], size, count, &kinds, &low[0..size], limit);
+    s[words_layout::COUNT_AT] = passed.left.0;
+    passed.taken
 }
 
-// Where a pass goes on behind the row at a place: no row above it is due any more, so it need not go back.
-fn resume_at(at: usize, width: usize) -> usize
-    requires { ⌜ at + width < placeLimit ⌝ }
-    ensures { λ r. ⌜ r ≡ at + width ⌝ }
+// Takes settling steps until the limit or until no stable unsettled row is left, and reports how many it took.
+pub fn settle_table(s: &mut [u32], limit: RowCount) -> RowCount
+    requires { ⌜ Checked (now s) ⌝ }
+    ensures { λ r. ⌜ (r .0 ≡ steps (tableOf (now (s .entry))) (limit .0)) × (now (s .exit) ≡ rewritten (now (s .entry)) (withRows (tableOf (now (s .entry))) (rowsSettled (tableOf (now (s .entry))) (limit .0)))) ⌝ }
 {
-    at + width
-}
-
-// Takes settling steps until the limit or until no row is due: one pass with a reading and a writing place.
-pub fn pass_rows(
-    rows: &mut [u32],
-    size: usize,
-    count: RowCount,
-    kinds: &[u32],
-    low: &[u32],
-    limit: RowCount,
-) -> Passed
-    requires { ⌜ (length (now low) ≡ size) × (size ≤ 16) × (count .0 * rowWidth size ≤ length (now rows)) × Held (now kinds) size (pieces (rowWidth size) (count .0) (now rows)) ⌝ }
-    ensures { λ r. ⌜ (r .left .0 ≡ length (rowsThen (now (kinds .entry)) (now (low .entry)) (limit .0) (rowsFrom size (count .0) (now (rows .entry))))) × (r .taken .0 ≡ stepsThen (now (kinds .entry)) (now (low .entry)) (limit .0) (rowsFrom size (count .0) (now (rows .entry)))) × (now (rows .exit) ≡ padded (count .0 * rowWidth size) (flat (map (rowWords size) (rowsThen (now (kinds .entry)) (now (low .entry)) (limit .0) (rowsFrom size (count .0) (now (rows .entry)))))) ++ drop (count .0 * rowWidth size) (now (rows .entry))) ⌝ }
-{
-    let width = layout::VECTOR_AT + size;
-    let mut from = 0;
-    let mut to = 0;
-    let mut more = count.0;
-    let mut left: u32 = 0;
-    let mut taken: u32 = 0;
-    while 0 < more {
-        if limit.0 <= taken {
-            break;
-        }
-        let at = from;
-        from = resume_at(at, width);
-        more -= 1;
-        match steps::step_for(rows, size, at, RowCount(left), RowCount(more), kinds, low) {
-            Step::Keeps => {
-                moves::copy_down(rows, width, at, to);
-                to += width;
-                left += 1;
-            }
-            Step::Settles => {
-                settle_row(rows, at, size);
-                moves::copy_down(rows, width, at, to);
-                to += width;
-                left += 1;
-                taken += 1;
-            }
-            Step::Drops => taken += 1,
-            Step::DropsBoth => {
-                taken += 1;
-                more -= 1;
-                from = resume_at(from, width);
-            }
-        }
-    }
-    close_up(rows, from, to, tags::wide(more) * width);
-    Passed {
-        left: RowCount(left + more),
-        taken: RowCount(taken),
-    }
+    let size = words_tags::wide(s[words_layout::SIZE_AT]);
+    let count = RowCount(s[words_layout::COUNT_AT]);
+    settle_opened(s, size, count, limit)
 }

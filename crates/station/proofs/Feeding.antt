@@ -4,13 +4,13 @@ use mathlib.Core.Path.{_≡_, refl, subst, _∙_}
 use mathlib.Core.List.{List, []}
 use native.Mathlib.Omega.{arith}
 use lib.ListN.{length, getD, take}
-use Rattle.hexes.specs.Hex.{lf}
-use Rattle.hexes.specs.Keeping.{kept}
-use Rattle.ranges.specs.Spaces.{mostWords}
-use Rattle.keeping.specs.Feeding.{fed, Going, heldFed, heldTaken, LastPiece, taken, WholeLines}
-use Rattle.keeping.proofs.Feeding as keeping
-use Rattle.gathering.specs.Gathering.{HasRoom, replied}
-use Rattle.gathering.proofs.Alike.{replied-alike}
+use Rattle.line_hex.specs.Hex.{lf}
+use Rattle.line_hex.specs.Keeping.{kept}
+use Rattle.table_ranges.specs.Spaces.{mostWords}
+use Rattle.line_keep.specs.Feeding.{fed, Going, heldFed, heldTaken, LastPiece, taken, WholeLines}
+use Rattle.line_keep.proofs.Feeding as keeping
+use Rattle.program_output.specs.Gathering.{HasRoom, replied}
+use Rattle.program_output.proofs.Alike.{replied-alike}
 use Rattle.station.specs.declared.More.{More}
 use Rattle.station.specs.declared.More.the-variants as more
 use Rattle.station.specs.Ending.{StillGoing}

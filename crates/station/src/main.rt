@@ -2,14 +2,14 @@
 ghost use mathlib.Core.Path.{_≡_};
 ghost use Prim.Native.Nat.{_≤_};
 ghost use lib.ListN.{length};
-ghost use Rattle.ranges.specs.Spaces.{mostWords};
-ghost use Rattle.gathering.specs.Gathering.{HasRoom, replied};
-ghost use Rattle.keeping.specs.Feeding.{fed, Going, heldFed, heldTaken, LastPiece, taken, WholeLines};
+ghost use Rattle.table_ranges.specs.Spaces.{mostWords};
+ghost use Rattle.program_output.specs.Gathering.{HasRoom, replied};
+ghost use Rattle.line_keep.specs.Feeding.{fed, Going, heldFed, heldTaken, LastPiece, taken, WholeLines};
 ghost use Rattle.station.specs.Ending.{StillGoing};
-use gathering::LINE;
-use gathering::MOST_WORDS;
-use gathering::PENDING;
-use gathering::Waiting;
+use program_output::LINE;
+use program_output::MOST_WORDS;
+use program_output::PENDING;
+use program_output::Waiting;
 use libc::STDIN_FILENO;
 
 // What is kept from one byte of input to the next: so many characters of a line, and the answers that wait.
@@ -26,12 +26,12 @@ fn take(space: &mut [u32], line: &mut [u8], pending: &mut [u8], kept: Kept, b: u
         ≡ heldTaken replied (now (line .entry)) (kept .have) (now (space .entry), (kept .waiting .count, now (pending .entry))) b)
         × ((r .have ≤ length (now (line .exit))) × HasRoom (r .waiting .count) (now (pending .exit)))) ⌝ }
 {
-    let have = hexes::keep(line, kept.have, b);
+    let have = line_hex::keep(line, kept.have, b);
     let waiting = kept.waiting;
-    if b != hexes::LF {
+    if b != line_hex::LF {
         return Kept { have, waiting };
     }
-    let after = gathering::reply(space, &line[0..have], pending, waiting);
+    let after = program_output::reply(space, &line[0..have], pending, waiting);
     Kept {
         have: 0,
         waiting: after,
@@ -83,7 +83,7 @@ fn some(space: &mut [u32], line: &mut [u8], pending: &mut [u8], have: usize) -> 
     }
     let n = io::count(got, &buffer);
     let kept = feed(space, line, pending, have, &buffer[..n]);
-    let written = gathering::flush(pending, kept.waiting);
+    let written = program_output::flush(pending, kept.waiting);
     if written.open {
         return More::Yes(kept.have);
     }
@@ -104,7 +104,7 @@ fn end(space: &mut [u32], line: &[u8], pending: &mut [u8], have: usize) -> Waiti
     if have == 0 {
         return waiting;
     }
-    gathering::reply(space, &line[0..have], pending, waiting)
+    program_output::reply(space, &line[0..have], pending, waiting)
 }
 
 fn main() {
@@ -120,7 +120,7 @@ fn main() {
             }
             More::End => {
                 let last = end(&mut space, &line, &mut pending, have);
-                gathering::flush(&pending, last);
+                program_output::flush(&pending, last);
                 return;
             }
             More::Closed => {

@@ -6,12 +6,12 @@ use Rattle.calls.proofs.answer_first.Statement.{statement}
 use Rattle.calls.proofs.answer_first.Tie as tie
 use Rattle.calls.proofs.answer_first.Reads as reads
 use Rattle.calls.proofs.answer_first.Lts as lts
-use Rattle.answering.proofs.answer_line.Reads as answer-line-reads
-use Rattle.answering.proofs.tell_opened.Reads as tell-opened-reads
-use Rattle.heard.proofs.type_of.Reads as type-of-reads
-use Rattle.printed.proofs.write_refusal.Reads as write-refusal-reads
-use Rattle.rules.proofs.is_table.Reads as is-table-reads
-use Rattle.spoken.proofs.open_line.Reads as open-line-reads
+use Rattle.call_answer.proofs.answer_line.Reads as answer-line-reads
+use Rattle.call_answer.proofs.tell_opened.Reads as tell-opened-reads
+use Rattle.line_hear.proofs.type_of.Reads as type-of-reads
+use Rattle.line_print.proofs.write_refusal.Reads as write-refusal-reads
+use Rattle.table_rules.proofs.is_table.Reads as is-table-reads
+use Rattle.call_checked.proofs.open_line.Reads as open-line-reads
 
 type-of-requires : tie.Need-type-of-requires
 type-of-requires c κs = search needs

@@ -6,8 +6,8 @@ use Rattle.calls.proofs.ask.Statement.{statement}
 use Rattle.calls.proofs.ask.Tie as tie
 use Rattle.calls.proofs.ask.Reads as reads
 use Rattle.calls.proofs.ask.Lts as lts
-use Rattle.spoken.proofs.ask_line.Reads as ask-line-reads
-use Rattle.rules.proofs.is_table.Reads as is-table-reads
+use Rattle.call_checked.proofs.ask_line.Reads as ask-line-reads
+use Rattle.table_rules.proofs.is_table.Reads as is-table-reads
 
 is-table-requires : tie.Need-is-table-requires
 is-table-requires c κs = search needs

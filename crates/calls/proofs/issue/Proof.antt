@@ -6,8 +6,8 @@ use Rattle.calls.proofs.issue.Statement.{statement}
 use Rattle.calls.proofs.issue.Tie as tie
 use Rattle.calls.proofs.issue.Reads as reads
 use Rattle.calls.proofs.issue.Lts as lts
-use Rattle.spoken.proofs.issue_line.Reads as issue-line-reads
-use Rattle.rules.proofs.is_table.Reads as is-table-reads
+use Rattle.call_checked.proofs.issue_line.Reads as issue-line-reads
+use Rattle.table_rules.proofs.is_table.Reads as is-table-reads
 
 is-table-requires : tie.Need-is-table-requires
 is-table-requires c κs = search needs

@@ -6,8 +6,8 @@ use Rattle.calls.proofs.receive.Statement.{statement}
 use Rattle.calls.proofs.receive.Tie as tie
 use Rattle.calls.proofs.receive.Reads as reads
 use Rattle.calls.proofs.receive.Lts as lts
-use Rattle.spoken.proofs.receive_line.Reads as receive-line-reads
-use Rattle.rules.proofs.is_table.Reads as is-table-reads
+use Rattle.call_checked.proofs.receive_line.Reads as receive-line-reads
+use Rattle.table_rules.proofs.is_table.Reads as is-table-reads
 
 is-table-requires : tie.Need-is-table-requires
 is-table-requires c κs = search needs

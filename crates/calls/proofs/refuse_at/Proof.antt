@@ -6,7 +6,7 @@ use Rattle.calls.proofs.refuse_at.Tie as tie
 use Rattle.calls.proofs.refuse_at.Reads as reads
 use Rattle.calls.proofs.refuse_at.Lts as lts
 use Rattle.calls.proofs.line_or_end.Reads as line-or-end-reads
-use Rattle.printed.proofs.write_refusal.Reads as write-refusal-reads
+use Rattle.line_print.proofs.write_refusal.Reads as write-refusal-reads
 
 returns : tie.Need-returns
 returns c = search refused-later

@@ -1,4 +1,4 @@
-use Rattle.saving.proofs.Saving.{save-no-table, save-table}
+use Rattle.form_save.proofs.Saving.{save-no-table, save-table}
 use Rattle.calls.proofs.Tested.{found}
 use native.Mathlib.Omega.{arith}
 use borrow.Author.Needs.{needs}
@@ -6,8 +6,8 @@ use Rattle.calls.proofs.save_line.Statement.{statement}
 use Rattle.calls.proofs.save_line.Tie as tie
 use Rattle.calls.proofs.save_line.Reads as reads
 use Rattle.calls.proofs.save_line.Lts as lts
-use Rattle.rules.proofs.is_table.Reads as is-table-reads
-use Rattle.saving.proofs.save_checked.Reads as save-checked-reads
+use Rattle.table_rules.proofs.is_table.Reads as is-table-reads
+use Rattle.form_save.proofs.save_checked.Reads as save-checked-reads
 
 is-table-requires : tie.Need-is-table-requires
 is-table-requires c κs = search needs

@@ -6,8 +6,8 @@ use Rattle.calls.proofs.settle.Statement.{statement}
 use Rattle.calls.proofs.settle.Tie as tie
 use Rattle.calls.proofs.settle.Reads as reads
 use Rattle.calls.proofs.settle.Lts as lts
-use Rattle.spoken.proofs.settle_line.Reads as settle-line-reads
-use Rattle.rules.proofs.is_table.Reads as is-table-reads
+use Rattle.call_checked.proofs.settle_line.Reads as settle-line-reads
+use Rattle.table_rules.proofs.is_table.Reads as is-table-reads
 
 is-table-requires : tie.Need-is-table-requires
 is-table-requires c κs = search needs

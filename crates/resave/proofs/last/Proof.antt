@@ -1,12 +1,12 @@
 use Rattle.resave.proofs.Feeding.{nothing-left, piece-left}
-use Rattle.keeping.proofs.Feeding.{going-within}
+use Rattle.line_keep.proofs.Feeding.{going-within}
 use native.Mathlib.Omega.{arith}
 use borrow.Author.Needs.{needs}
 use Rattle.resave.proofs.last.Statement.{statement}
 use Rattle.resave.proofs.last.Tie as tie
 use Rattle.resave.proofs.last.Reads as reads
 use Rattle.resave.proofs.last.Lts as lts
-use Rattle.judging.proofs.judge.Reads as judge-reads
+use Rattle.form_judge.proofs.judge.Reads as judge-reads
 
 returns : tie.Need-returns
 returns c = search nothing-left

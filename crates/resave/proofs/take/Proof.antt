@@ -1,13 +1,13 @@
 use Rattle.resave.proofs.Feeding.{known-ended, known-joined}
-use Rattle.keeping.proofs.Feeding.{have-within, taken-ended, taken-joined}
+use Rattle.line_keep.proofs.Feeding.{have-within, taken-ended, taken-joined}
 use native.Mathlib.Omega.{arith}
 use borrow.Author.Needs.{needs}
 use Rattle.resave.proofs.take.Statement.{statement}
 use Rattle.resave.proofs.take.Tie as tie
 use Rattle.resave.proofs.take.Reads as reads
 use Rattle.resave.proofs.take.Lts as lts
-use Rattle.hexes.proofs.keep.Reads as keep-reads
-use Rattle.judging.proofs.judge.Reads as judge-reads
+use Rattle.line_hex.proofs.keep.Reads as keep-reads
+use Rattle.form_judge.proofs.judge.Reads as judge-reads
 
 keep-requires : tie.Need-keep-requires
 keep-requires c κs = search needs

@@ -1,0 +1,45 @@
+-- The words of an arrival's row.
+use mathlib.Core.Path.{_≡_, refl, sym, ap, _∙_}
+use mathlib.Core.List.{List, [], _∷_, _++_}
+use Prim.Native.Nat.{ℕ, zero, suc, _+_, _-_, _≤_, _<_}
+use native.Mathlib.Omega.{arith}
+use lib.ListN.{length, getD, take, replicate, length-replicate}
+use Rattle.meaning.specs.Order.{Vector}
+use Rattle.words_layout.specs.Layout.{rowOf, rowWords}
+use Rattle.words_layout.proofs.RowWords.{row-written}
+use Rattle.table_drop.specs.declared.Arrival.{Arrival}
+
+-- an unsettled row: the arrival with its tag
+module _ (n : ℕ) (a : Arrival) (v : Vector) (k : ℕ) (long : length v ≡ n) (small : a .low < 4294967296) (number : k ≡ getD v (a .sender .0) 0) where
+  abbrev tagged : List ℕ
+  tagged = a .object ∷ a .high ∷ a .low ∷ a .code ∷ 1 ∷ a .sender .0 ∷ k ∷ []
+
+  pub tagged-spelt : rowWords n (rowOf (tagged ++ v)) ≡ tagged ++ v
+  tagged-spelt = row-written n (tagged ++ v) (record { wide = omega arith; word = small; flag = omega arith; number = number; bare = λ e. absurd (omega arith) })
+
+-- zeros as long as the group is large
+zeros-front : (m n : ℕ) → n ≤ m → take {A = ℕ} n (replicate m 0) ≡ replicate n 0
+zeros-front m zero h = refl
+zeros-front zero (suc n) h = absurd (omega arith)
+zeros-front (suc m) (suc n) h = ap (λ (l : List ℕ). 0 ∷ l) (zeros-front m n (omega arith))
+
+zero-first : (n : ℕ) → _≡_ {A = ℕ} (getD (replicate n 0) 0 0) 0
+zero-first zero = refl
+zero-first (suc n) = refl
+
+-- a settled row: the arrival without a tag
+module _ (n : ℕ) (a : Arrival) (few : n ≤ 16) (small : a .low < 4294967296) where
+  abbrev bare : List ℕ
+  bare = a .object ∷ a .high ∷ a .low ∷ a .code ∷ 0 ∷ 0 ∷ 0 ∷ []
+
+  abbrev none : List ℕ
+  none = take (n - 0) (replicate 16 0)
+
+  none-is : none ≡ replicate n 0
+  none-is = let q : n - 0 ≡ n = omega arith in rw q (zeros-front 16 n few)
+
+  pub none-long : length none ≡ n
+  none-long = ap length none-is ∙ length-replicate n 0
+
+  pub bare-spelt : rowWords n (rowOf (bare ++ none)) ≡ bare ++ none
+  bare-spelt = row-written n (bare ++ none) (record { wide = omega (arith, none-long); word = small; flag = omega arith; number = rw none-is (sym (zero-first n)); bare = λ e. (refl, none-is) })

@@ -1,0 +1,69 @@
+use Rattle.arrival.proofs.Putting.{Looking, looking-start, looking-found, looking-on, looking-done}
+use Rattle.table_drop.proofs.Dropping.{row-room, row-wide}
+use borrow.Author.Needs.{needs}
+use Rattle.arrival.proofs.has_value.Statement.{statement}
+use Rattle.arrival.proofs.has_value.Tie as tie
+use Rattle.arrival.proofs.has_value.Reads as reads
+use Rattle.arrival.proofs.has_value.Lts as lts
+use Rattle.table_drop.proofs.same_value.Reads as same-value-reads
+
+abbrev Inv-loop : tie.InvT-loop
+Inv-loop rows width a v from₀ more₀ from more = Looking a v width more₀ rows from more
+
+abbrev μ-loop : tie.MeasureT-loop
+μ-loop rows width a v from₀ more₀ from more = more
+
+loop-holds : tie.Need-loop-holds Inv-loop μ-loop
+loop-holds c = search looking-start
+
+sub-more : tie.Need-sub-more Inv-loop μ-loop
+sub-more c = search needs
+
+add-end : tie.Need-add-end Inv-loop μ-loop
+add-end c = search needs
+
+mul-same-value : tie.Need-mul-same-value Inv-loop μ-loop
+mul-same-value c = search needs
+
+sub-same-value : tie.Need-sub-same-value Inv-loop μ-loop
+sub-same-value c = search needs
+
+part-same-value-start : tie.Need-part-same-value-start Inv-loop μ-loop
+part-same-value-start c = search needs
+
+part-same-value-end : tie.Need-part-same-value-end Inv-loop μ-loop
+part-same-value-end c = search row-room
+
+same-value-requires : tie.Need-same-value-requires Inv-loop μ-loop
+same-value-requires c κs = search (row-wide, row-room)
+
+returns : tie.Need-returns Inv-loop μ-loop
+returns c = search looking-found
+
+loop-less : tie.Need-loop-less Inv-loop μ-loop
+loop-less c = search needs
+
+loop-again : tie.Need-loop-again Inv-loop μ-loop
+loop-again c = search looking-on
+
+returns-2 : tie.Need-returns-2 Inv-loop μ-loop
+returns-2 c = search looking-done
+
+pub has-value-spec : {M : Type 1} → statement M
+has-value-spec =
+    tie.close
+    (tie.spec
+    Inv-loop
+    μ-loop
+    loop-holds
+    sub-more
+    add-end
+    mul-same-value
+    sub-same-value
+    part-same-value-start
+    part-same-value-end
+    same-value-requires
+    returns
+    loop-less
+    loop-again
+    returns-2)

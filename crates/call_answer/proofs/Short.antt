@@ -1,0 +1,78 @@
+-- Every answer has at most 2051 bytes.
+use mathlib.Core.Path.{_≡_, refl}
+use mathlib.Core.Bool.{Bool, true, false, cond}
+use mathlib.Core.List.{List, [], _∷_}
+use Prim.Native.Nat.{ℕ, _+_, _*_, _≤_}
+use native.Mathlib.Omega.{arith}
+use lib.Dec.{eqb}
+use lib.ListN.{length}
+use Rattle.meaning.specs.Calls as meaning
+use Rattle.words_layout.specs.Layout.{rewritten, tableOf}
+use Rattle.refusal_kind.specs.Asking.{askedFrom}
+use Rattle.table_checked.specs.Checked.{Checked}
+use Rattle.line_hex.specs.Choice.{pick}
+use Rattle.line_shape.specs.Shapes.{lengthOf}
+use Rattle.line_read.specs.Types.{count, done}
+use Rattle.line_read.specs.Named.{issueRead, openingRead, questionRead}
+use Rattle.line_read.proofs.Lengths.{line-length}
+use Rattle.line_hear.specs.Hearing.{bytesOf}
+use Rattle.call_question.specs.Telling.{refusalBytes, replyBytes}
+use Rattle.call_question.proofs.Short.{refusal-long, reply-short}
+use Rattle.call_checked.specs.declared.Opened.{Opened}
+use Rattle.call_checked.specs.declared.Opened.the-variants as opened
+use Rattle.call_checked.specs.declared.Issued.{Issued}
+use Rattle.call_checked.specs.declared.Issued.the-variants as issued
+use Rattle.call_checked.specs.declared.Received.{Received}
+use Rattle.call_checked.specs.declared.Received.the-variants as received
+use Rattle.call_checked.specs.declared.Settled.{Settled}
+use Rattle.call_checked.specs.declared.Settled.the-variants as settled
+use Rattle.call_checked.specs.Spoken.{receivedOn, settledOn}
+use Rattle.call_answer.specs.Answering.{answerOn, doneBytes, issueAnswer, openedBytes, questionAnswer, receivedBytes, secondOpening, settledBytes}
+use Rattle.call_answer.proofs.Framing.{issue-short}
+
+pub refusal-short : (number : ℕ) → length (refusalBytes number) ≤ 2051
+refusal-short number = omega (arith, refusal-long number)
+
+done-short : length doneBytes ≤ 2051
+unfolding doneBytes lengthOf
+done-short = omega (arith, line-length done [] [] refl)
+
+pub opened-short : (r : Opened) → length (openedBytes r) ≤ 2051
+unfolding openedBytes
+opened-short (opened.Refused number) = refusal-short number
+opened-short opened.Fresh = done-short
+
+received-short : (r : Received) → length (receivedBytes r) ≤ 2051
+unfolding receivedBytes
+received-short (received.Refused number) = refusal-short number
+received-short received.Accepted = done-short
+
+settled-short : (r : Settled) → length (settledBytes r) ≤ 2051
+unfolding settledBytes lengthOf
+settled-short (settled.Refused number) = refusal-short number
+settled-short (settled.Steps steps) = omega (arith, line-length count (steps .0 ∷ []) [] refl)
+
+module _ (words : List ℕ) (K : Checked words) (line : List ℕ) where
+  question-short : length (questionAnswer line words) ≤ 2051
+  unfolding questionAnswer
+  question-short = by (questionRead (bytesOf line) .ok)
+    where
+      by : (b : Bool) → length (pick b (replyBytes (meaning.ask (tableOf words) 512 (askedFrom (questionRead (bytesOf line) .object) (questionRead (bytesOf line) .question) (questionRead (bytesOf line) .value)))) (refusalBytes 1)) ≤ 2051
+      by true = reply-short words K 512 (askedFrom (questionRead (bytesOf line) .object) (questionRead (bytesOf line) .question) (questionRead (bytesOf line) .value))
+      by false = refusal-short 1
+
+  second-short : length (secondOpening line) ≤ 2051
+  unfolding secondOpening
+  second-short = refusal-short (pick (openingRead (bytesOf line) .ok) 13 1)
+
+pub answer-short : (words : List ℕ) → Checked words → (type : ℕ) (line : List ℕ) → length (answerOn type line words .0) ≤ 2051
+unfolding answerOn
+answer-short words K type line = by (eqb type 32) (eqb type 33) (eqb type 48) (eqb type 64) (eqb type 16)
+  where
+    by : (a b c d e : Bool) → length (pick a (receivedBytes (receivedOn line words .0), receivedOn line words .1) (pick b (issueAnswer line words) (pick c (settledBytes (settledOn line words .0), settledOn line words .1) (pick d (questionAnswer line words, words) (pick e (secondOpening line, words) (refusalBytes 1, words))))) .0) ≤ 2051
+    by true b c d e = received-short (receivedOn line words .0)
+    by false true c d e = issue-short words K line
+    by false false true d e = settled-short (settledOn line words .0)
+    by false false false true e = question-short words K line
+    by false false false false true = second-short words K line
+    by false false false false false = refusal-short 1

@@ -1,0 +1,85 @@
+-- What the station program answers to a line at a table: the bytes of its one line, and the table space afterwards.
+use mathlib.Core.List.{List, [], _∷_}
+use Prim.Native.Nat.{ℕ}
+use lib.Dec.{eqb}
+use Rattle.meaning.specs.Table.{greatestCapacity}
+use Rattle.meaning.specs.Calls as meaning
+use Rattle.words_layout.specs.Layout.{rewritten, tableOf}
+use Rattle.refusal_kind.specs.Asking.{askedFrom}
+use Rattle.line_hex.specs.Choice.{pick}
+use Rattle.line_put.specs.Writing.{lineWritten}
+use Rattle.line_put.specs.declared.Written.{Written}
+use Rattle.line_read.specs.Types.{Line, count, done, issue, lineOf, opening, operation, question, settling}
+use Rattle.line_read.specs.Named.{issueRead, openingRead, questionRead}
+use Rattle.line_hear.specs.Hearing.{bytesOf}
+use Rattle.call_question.specs.Telling.{refusalBytes, replyBytes}
+use Rattle.call_checked.specs.declared.Opened.{Opened}
+use Rattle.call_checked.specs.declared.Opened.the-variants as opened
+use Rattle.call_checked.specs.declared.Received.{Received}
+use Rattle.call_checked.specs.declared.Received.the-variants as received
+use Rattle.call_checked.specs.declared.Settled.{Settled}
+use Rattle.call_checked.specs.declared.Settled.the-variants as settled
+use Rattle.call_checked.specs.Spoken.{frameBytes, localOf, receivedOn, settledOn}
+
+-- "An answer line is `00` and the result": "opening and operation none".
+unfoldable pub doneBytes : List ℕ
+doneBytes = lineOf done [] []
+
+unfoldable pub openedBytes : Opened → List ℕ
+openedBytes (opened.Refused number) = refusalBytes number
+openedBytes opened.Fresh = doneBytes
+
+unfoldable pub receivedBytes : Received → List ℕ
+receivedBytes (received.Refused number) = refusalBytes number
+receivedBytes received.Accepted = doneBytes
+
+-- "settle and count 2 bytes"
+unfoldable pub settledBytes : Settled → List ℕ
+settledBytes (settled.Refused number) = refusalBytes number
+settledBytes (settled.Steps steps) = lineOf count (steps .0 ∷ []) []
+
+-- "issue the `20` frame", behind `00`.
+unfoldable pub issuedBytes : List ℕ → meaning.Outcome → List ℕ × List ℕ
+issuedBytes words (meaning.Outcome.refused number) = (refusalBytes number, words)
+issuedBytes words (meaning.Outcome.accepted u table) = (0 ∷ frameBytes u, rewritten words table)
+
+unfoldable pub issueAnswer : List ℕ → List ℕ → List ℕ × List ℕ
+issueAnswer line words =
+    let f = issueRead (bytesOf line) in
+    pick (f .ok) (issuedBytes words (meaning.issue (tableOf words) (localOf f))) (refusalBytes 1, words)
+
+-- A line has room for as many values as a table may have rows, so that 11 is never given here.
+unfoldable pub questionAnswer : List ℕ → List ℕ → List ℕ
+questionAnswer line words =
+    let asked = questionRead (bytesOf line) in
+    pick (asked .ok)
+    (replyBytes (meaning.ask (tableOf words) greatestCapacity (askedFrom (asked .object) (asked .question) (asked .value))))
+    (refusalBytes 1)
+
+-- "a second opening gets `ff0d`"
+unfoldable pub secondOpening : List ℕ → List ℕ
+secondOpening line = refusalBytes (pick (openingRead (bytesOf line) .ok) 13 1)
+
+-- An answer that changes the space, and one that does not.
+abbrev pub changing : {A : Type 0} → (A → List ℕ) → A × List ℕ → List ℕ × List ℕ
+changing bytesOfAnswer (answer, words) = (bytesOfAnswer answer, words)
+
+abbrev pub isType : ℕ → Line → {A : Type 0} → A → A → A
+isType type line = pick (eqb type (line .typeByte))
+
+-- By the line's type: "Lines of type `50` to `5f` are of unknown type here (1)."
+unfoldable pub answerOn : ℕ → List ℕ → List ℕ → List ℕ × List ℕ
+answerOn type line words =
+    isType type operation (changing receivedBytes (receivedOn line words))
+    (isType type issue (issueAnswer line words)
+    (isType type settling (changing settledBytes (settledOn line words))
+    (isType type question (questionAnswer line words, words)
+    (isType type opening (secondOpening line, words) (refusalBytes 1, words)))))
+
+-- The answer's line in a space for it, and the table space.
+unfoldable pub toldAfter : List ℕ → List ℕ × List ℕ → Written × (List ℕ × List ℕ)
+toldAfter out (bytes, words) = (lineWritten out bytes .0, (words, lineWritten out bytes .1))
+
+-- The characters of the longest frame's line behind `00`: 9 bytes and 16 entries.
+abbrev pub frameRoom : ℕ
+frameRoom = 149

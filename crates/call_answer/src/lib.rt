@@ -1,0 +1,109 @@
+// What the station program answers to a line at a table that was checked, written as the one line of its answer.
+ghost use mathlib.Core.Path.{_≡_};
+ghost use Prim.Native.Nat.{_≤_};
+ghost use lib.ListN.{length};
+ghost use Rattle.table_checked.specs.Checked.{Checked};
+ghost use Rattle.line_put.specs.Writing.{lineWritten};
+ghost use Rattle.call_answer.specs.Answering.{answerOn, frameRoom, issueAnswer, openedBytes, questionAnswer, receivedBytes, secondOpening, settledBytes, toldAfter};
+use call_checked::Issued;
+use call_checked::Opened;
+use call_checked::Received;
+use call_checked::Settled;
+use line_put::Written;
+
+// A second opening, in its right shape.
+const SECOND_OPENING: u32 = 13;
+
+// How many characters a byte has, and how many bytes `00` is.
+const CHARACTERS: usize = 2;
+
+const ONE: usize = 1;
+
+// The answer to an opening.
+pub fn tell_opened(r: Opened, out: &mut [u8]) -> Written
+    ensures { λ w. ⌜ (w, now (out .exit)) ≡ lineWritten (now (out .entry)) (openedBytes r) ⌝ }
+{
+    match r {
+        Opened::Refused(number) => line_print::write_refusal(out, number),
+        Opened::Fresh => line_print::write_done(out),
+    }
+}
+
+// The answer to a frame.
+fn tell_received(r: Received, out: &mut [u8]) -> Written
+    ensures { λ w. ⌜ (w, now (out .exit)) ≡ lineWritten (now (out .entry)) (receivedBytes r) ⌝ }
+{
+    match r {
+        Received::Refused(number) => line_print::write_refusal(out, number),
+        Received::Accepted => line_print::write_done(out),
+    }
+}
+
+// The answer to a settling line.
+fn tell_settled(r: Settled, out: &mut [u8]) -> Written
+    ensures { λ w. ⌜ (w, now (out .exit)) ≡ lineWritten (now (out .entry)) (settledBytes r) ⌝ }
+{
+    match r {
+        Settled::Refused(number) => line_print::write_refusal(out, number),
+        Settled::Steps(count) => line_print::write_count(out, count.0),
+    }
+}
+
+// The answer to a local operation: its frame's line goes behind the place of `00`.
+fn answer_issue(space: &mut [u32], line: &[u8], out: &mut [u8]) -> Written
+    requires { ⌜ Checked (now space) × (frameRoom ≤ length (now out)) ⌝ }
+    ensures { λ w. ⌜ (w, (now (space .exit), now (out .exit))) ≡ toldAfter (now (out .entry)) (issueAnswer (now (line .entry)) (now (space .entry))) ⌝ }
+{
+    match call_checked::issue_line(space, line, &mut out[CHARACTERS..]) {
+        Issued::Refused(number) => line_print::write_refusal(out, number),
+        Issued::Frame(n) => {
+            let start = line_hex::put_number(out, 0, line_read::DONE as u32, ONE);
+            Written::Characters(start + n)
+        }
+    }
+}
+
+// The answer to a question.
+fn answer_question(space: &[u32], line: &[u8], out: &mut [u8]) -> Written
+    requires { ⌜ Checked (now space) ⌝ }
+    ensures { λ w. ⌜ (w, now (out .exit)) ≡ lineWritten (now (out .entry)) (questionAnswer (now (line .entry)) (now (space .entry))) ⌝ }
+{
+    let asked = line_hear::question(line);
+    if asked.ok {
+        return call_question::tell(space, asked.object, asked.question, asked.value, out);
+    }
+    line_print::write_refusal(out, call_checked::MISSHAPEN)
+}
+
+// The answer to an opening where a table is: 13, or 1 where it is no opening.
+fn answer_opening(line: &[u8], out: &mut [u8]) -> Written
+    ensures { λ w. ⌜ (w, now (out .exit)) ≡ lineWritten (now (out .entry)) (secondOpening (now (line .entry))) ⌝ }
+{
+    if line_hear::is_opening(line) {
+        return line_print::write_refusal(out, SECOND_OPENING);
+    }
+    line_print::write_refusal(out, call_checked::MISSHAPEN)
+}
+
+// The answer to a line of this type.
+pub fn answer_line(space: &mut [u32], line: &[u8], kind: u8, out: &mut [u8]) -> Written
+    requires { ⌜ Checked (now space) × (frameRoom ≤ length (now out)) ⌝ }
+    ensures { λ w. ⌜ (w, (now (space .exit), now (out .exit))) ≡ toldAfter (now (out .entry)) (answerOn kind (now (line .entry)) (now (space .entry))) ⌝ }
+{
+    if kind == line_read::OPERATION {
+        return tell_received(call_checked::receive_line(space, line), out);
+    }
+    if kind == line_read::ISSUE {
+        return answer_issue(space, line, out);
+    }
+    if kind == line_read::SETTLING {
+        return tell_settled(call_checked::settle_line(space, line), out);
+    }
+    if kind == line_read::QUESTION {
+        return answer_question(space, line, out);
+    }
+    if kind == line_read::OPENING {
+        return answer_opening(line, out);
+    }
+    line_print::write_refusal(out, call_checked::MISSHAPEN)
+}

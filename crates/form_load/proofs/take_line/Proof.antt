@@ -1,0 +1,23 @@
+use Rattle.line_hear.proofs.Hearing.{heard-room}
+use Rattle.form_load.proofs.Loads.{takes-heard}
+use borrow.Author.Needs.{needs}
+use Rattle.form_load.proofs.take_line.Statement.{statement}
+use Rattle.form_load.proofs.take_line.Tie as tie
+
+part-take-bytes-end : tie.Need-part-take-bytes-end
+part-take-bytes-end c = search heard-room
+
+returns : tie.Need-returns
+returns c = search takes-heard
+
+pub take-line-spec : {M : Type 1} → statement M
+take-line-spec =
+    tie.close
+    (tie.spec
+    (λ c κs. search needs)
+    (λ c. search needs)
+    (λ c. search needs)
+    part-take-bytes-end
+    (λ c κs. search needs)
+    (λ c. search needs)
+    returns)

@@ -1,0 +1,67 @@
+use borrow.Author.Tests.{not-true, not-false}
+use Rattle.form_take.proofs.Words.{last-fits, last-misplaced, last-misshapen, last-offset, last-right, last-room, last-start, last-unruly}
+use borrow.Author.Needs.{needs}
+use Rattle.form_take.proofs.take_last.Statement.{statement}
+use Rattle.form_take.proofs.take_last.Tie as tie
+
+returns : tie.Need-returns
+returns c = search (last-misshapen, not-true)
+
+returns-2 : tie.Need-returns-2
+returns-2 c = search last-misplaced
+
+part-last-ok-end : tie.Need-part-last-ok-end
+part-last-ok-end c = search last-room
+
+mul-at : tie.Need-mul-at
+mul-at c = search last-offset
+
+add-at : tie.Need-add-at
+add-at c = search last-start
+
+part-take-words-end : tie.Need-part-take-words-end
+part-take-words-end c = search last-room
+
+take-words-requires : tie.Need-take-words-requires
+take-words-requires c κs = (search needs, search needs, search last-fits)
+
+returns-3 : tie.Need-returns-3
+returns-3 c = search (last-right, not-false)
+
+returns-4 : tie.Need-returns-4
+returns-4 c = search last-unruly
+
+pub take-last-spec : {M : Type 1} → statement M
+take-last-spec =
+    tie.close
+    (tie.spec
+    (λ c. search needs)
+    (λ c κs. search needs)
+    (λ c κs. search needs)
+    (λ c κs. search needs)
+    (λ c. search needs)
+    returns
+    (λ c κs. search needs)
+    (λ c. search needs)
+    returns-2
+    (λ c. search needs)
+    (λ c. search needs)
+    (λ c. search needs)
+    (λ c. search needs)
+    part-last-ok-end
+    (λ c. search needs)
+    (λ c. search needs)
+    (λ c. search needs)
+    (λ c κs. search needs)
+    (λ c κs. search needs)
+    mul-at
+    add-at
+    (λ c. search needs)
+    (λ c. search needs)
+    part-take-words-end
+    take-words-requires
+    (λ c. search needs)
+    returns-3
+    (λ c κs. search needs)
+    (λ c. search needs)
+    returns-4)

@@ -1,0 +1,281 @@
+-- The station program's answer to a line of each type is what the call of that type answers.
+use mathlib.Core.Path.{_≡_, refl, sym, ap, _∙_}
+use mathlib.Core.Bool.{Bool, true, false, cond, false≢true}
+use mathlib.Core.List.{List, [], _∷_}
+use Prim.Native.Nat.{ℕ, _≤_}
+use native.Mathlib.Omega.{arith}
+use borrow.Author.Tests.{le-leb}
+use lib.Dec.{eqb, leb}
+use lib.ListN.{drop, length, length-replicate}
+use lib.Seq.{take-at}
+use Rattle.meaning.specs.Operations.{Operation}
+use Rattle.meaning.specs.Table.{Table, zeros}
+use Rattle.meaning.specs.Refusals.{Local, issuedBy, refusalOfLocal}
+use Rattle.meaning.specs.Questions as asks
+use Rattle.meaning.specs.Calls as meaning
+use Rattle.meaning.specs.Calls.{afterArrival, outcome}
+use Rattle.words_layout.specs.Layout.{holdsTable, rewritten, spaceFor, tableOf}
+use Rattle.refusal_kind.specs.Asking.{askedFrom}
+use Rattle.table_checked.proofs.Checking.{checked}
+use Rattle.question.specs.declared.Reply.{Reply}
+use Rattle.question.specs.declared.Reply.the-variants as reply
+use Rattle.question.specs.Replies.{replied}
+use Rattle.line_hex.specs.Choice.{pick}
+use Rattle.line_hex.specs.Hex.{digitOf, digitsOf, hexLine}
+use Rattle.line_hex.specs.Numbers.{bigEndian}
+use Rattle.line_shape.specs.Shapes.{written}
+use Rattle.line_put.specs.Writing.{lineBytes, lineWritten}
+use Rattle.line_read.specs.Types.{issue, opening, operation, printing, question, settling}
+use Rattle.line_read.specs.Named.{issueRead, openingRead, operationRead, printingRead, questionRead, settlingRead}
+use Rattle.line_hear.specs.Hearing.{bytesOf}
+use Rattle.call_question.specs.Telling.{listBytes, refusalBytes, replyBytes}
+use Rattle.call_checked.specs.declared.Issued.the-variants as issued
+use Rattle.call_checked.specs.declared.Opened.the-variants as opened
+use Rattle.call_checked.specs.declared.Received.the-variants as received
+use Rattle.call_checked.specs.declared.Settled.the-variants as settled
+use Rattle.call_checked.specs.Spoken.{frameBytes, frameOf, framedAs, headerRead, issuedAs, issuedOn, localOf, openedAs, openedBy, receivedAs, receivedOn, repliedOn, settledAs, settledOn}
+use Rattle.call_answer.specs.Answering.{answerOn, changing, issueAnswer, issuedBytes, openedBytes, questionAnswer, receivedBytes, secondOpening, settledBytes}
+use Rattle.line_hear.specs.Hearing.{typeOf}
+use Rattle.form_write.specs.Forms.{savedForm}
+use Rattle.form_save.specs.declared.Saved.{Saved}
+use Rattle.form_save.specs.declared.Saved.the-variants as saved
+use Rattle.form_save.specs.Saving.{savedBy}
+use Rattle.calls.specs.declared.Answered.{Answered}
+use Rattle.calls.specs.declared.Answered.the-variants as answered
+use Rattle.calls.specs.Answers.{answerOf, answeredBy, linesFor, longestAnswer, printedAt}
+use Rattle.calls.specs.Calls as calls
+use Rattle.calls.specs.Calls.{receivedBy, repliedBy, settledBy}
+use Rattle.calls.proofs.Answering.{answer-formed, form-end, form-line, form-refused, one-line}
+use Rattle.law_agreement.specs.Conditions.{isLineOf}
+use Rattle.law_agreement.specs.Lines.{ByType, isDone, issuedTold, repliedTold, savedTold}
+use Rattle.law_agreement.proofs.Shaping.{printing-shaped}
+use Rattle.law_agreement.proofs.Lines.{done-is-done, frame-room, zeros-frame}
+
+module _ (line words : List ℕ) where
+  -- before an accepted opening, and at a table
+  module _ (type : ℕ) (z : typeOf line ≡ type) where
+    pub by-table : answerOf line words ≡ pick (holdsTable words) (answerOn type line words) (pick (eqb type 16) (openedBytes (openedBy line words .0), openedBy line words .1) (refusalBytes 14, words))
+    unfolding answerOf
+    by-table = rw z refl
+
+  told-frame : typeOf line ≡ operation .typeByte → answerOf line words ≡ changing receivedBytes (receivedBy line words)
+  unfolding answerOn receivedBy receivedBytes
+  told-frame z = by-table 32 z ∙ by (holdsTable words)
+    where
+      by : (b : Bool) → pick {A = List ℕ × List ℕ} b (receivedBytes (receivedOn line words .0), receivedOn line words .1) (refusalBytes 14, words) ≡ changing receivedBytes (pick b (receivedOn line words) (received.Refused 14, words))
+      by true = refl
+      by false = refl
+
+  told-settling : typeOf line ≡ settling .typeByte → answerOf line words ≡ changing settledBytes (settledBy line words)
+  unfolding answerOn settledBy settledBytes
+  told-settling z = by-table 48 z ∙ by (holdsTable words)
+    where
+      by : (b : Bool) → pick {A = List ℕ × List ℕ} b (settledBytes (settledOn line words .0), settledOn line words .1) (refusalBytes 14, words) ≡ changing settledBytes (pick b (settledOn line words) (settled.Refused 14, words))
+      by true = refl
+      by false = refl
+
+  told-opening : typeOf line ≡ opening .typeByte → holdsTable words ≡ false → answerOf line words ≡ changing openedBytes (openedBy line words)
+  told-opening z f = by-table 16 z ∙ rw f refl
+
+  told-second : typeOf line ≡ opening .typeByte → holdsTable words ≡ true → answerOf line words ≡ (secondOpening line, words)
+  unfolding answerOn
+  told-second z t = by-table 16 z ∙ rw t refl
+
+-- a reply, as it stands in a list space and as it is told
+reply-told : (r : meaning.Reply) (out : List ℕ) → replyBytes r ≡ repliedTold (replied r out)
+unfolding replyBytes repliedTold replied
+reply-told (meaning.Reply.refused number) out = refl
+reply-told (meaning.Reply.tooLong needed) out = refl
+reply-told (meaning.Reply.answered (asks.total z)) out = refl
+reply-told (meaning.Reply.answered (asks.flag on)) out = refl
+reply-told (meaning.Reply.answered (asks.list values)) out = ap listBytes (sym (take-at values (drop (length values) out) (length values) refl))
+reply-told (meaning.Reply.answered (asks.count number)) out = refl
+reply-told (meaning.Reply.answered (asks.holds there)) out = refl
+
+-- room for every list
+list-room : length (zeros 512) ≡ 512
+unfolding zeros
+list-room = length-replicate {A = ℕ} 512 0
+
+question-told : (line words : List ℕ) → questionAnswer line words ≡ repliedTold (repliedOn line words (zeros 512))
+unfolding questionAnswer repliedOn repliedTold
+question-told line words = by (questionRead (bytesOf line) .ok)
+  where
+    asked : asks.Asked
+    asked = askedFrom (questionRead (bytesOf line) .object) (questionRead (bytesOf line) .question) (questionRead (bytesOf line) .value)
+
+    by : (b : Bool) → pick b (replyBytes (meaning.ask (tableOf words) 512 asked)) (refusalBytes 1) ≡ repliedTold (pick b (replied (meaning.ask (tableOf words) (length (zeros 512)) asked) (zeros 512)) (reply.Refused 1, zeros 512))
+    by true = ap (λ (n : ℕ). replyBytes (meaning.ask (tableOf words) n asked)) (sym list-room) ∙ reply-told (meaning.ask (tableOf words) (length (zeros 512)) asked) (zeros 512)
+    by false = refl
+
+-- a frame, as it stands in a frame space and as it is told
+abbrev characters : List ℕ × List ℕ → List ℕ × List ℕ
+characters (bytes, words) = (hexLine bytes, words)
+
+zero-first : (bytes : List ℕ) → hexLine (0 ∷ bytes) ≡ 48 ∷ 48 ∷ hexLine bytes
+unfolding hexLine digitsOf digitOf
+zero-first bytes = refl
+
+frame-told : (words out : List ℕ) (u : Operation) (t : Table) → leb (length (hexLine (frameBytes u))) (length out) ≡ true →
+    characters (issuedBytes words (meaning.Outcome.accepted u t)) ≡ issuedTold (issuedAs words out (meaning.Outcome.accepted u t))
+unfolding issuedBytes issuedAs issuedTold framedAs lineWritten
+frame-told words out u t fits = rw fits
+    (ap (λ (l : List ℕ). (l, rewritten words t)) (zero-first (frameBytes u) ∙ ap (λ (l : List ℕ). 48 ∷ 48 ∷ l) (sym (take-at (hexLine (frameBytes u)) (drop (length (hexLine (frameBytes u))) out) (length (hexLine (frameBytes u))) refl))))
+
+outcome-told : (words out : List ℕ) (number : ℕ) (u : Operation) (t : Table) → leb (length (hexLine (frameBytes u))) (length out) ≡ true →
+    characters (issuedBytes words (outcome number u t)) ≡ issuedTold (issuedAs words out (outcome number u t))
+unfolding outcome issuedBytes issuedAs issuedTold
+outcome-told words out number u t fits = by (eqb number 0)
+  where
+    by : (b : Bool) → characters (issuedBytes words (cond b (meaning.Outcome.accepted u t) (meaning.Outcome.refused number))) ≡ issuedTold (issuedAs words out (cond b (meaning.Outcome.accepted u t) (meaning.Outcome.refused number)))
+    by true = frame-told words out u t fits
+    by false = refl
+
+issue-told : (line words : List ℕ) → holdsTable words ≡ true → characters (issueAnswer line words) ≡ issuedTold (issuedOn line words (zeros 147))
+unfolding issueAnswer issuedOn issuedTold meaning.issue
+issue-told line words held = by (issueRead (bytesOf line) .ok)
+  where
+    local : Local
+    local = localOf (issueRead (bytesOf line))
+
+    u : Operation
+    u = issuedBy (tableOf words) local
+
+    fits : leb (length (hexLine (frameBytes u))) (length (zeros 147)) ≡ true
+    fits = rw zeros-frame (le-leb (length (hexLine (frameBytes u))) 147 (frame-room words (checked words held) local))
+
+    by : (b : Bool) → characters (pick b (issuedBytes words (meaning.issue (tableOf words) local)) (refusalBytes 1, words)) ≡ issuedTold (pick b (issuedAs words (zeros 147) (meaning.issue (tableOf words) local)) (issued.Refused 1, (words, zeros 147)))
+    by true = outcome-told words (zeros 147) (refusalOfLocal (tableOf words) local) u (afterArrival (tableOf words) u (tableOf words .last)) fits
+    by false = refl
+
+-- a `60` line to a table
+told-whole : (line words : List ℕ) → isLineOf printing 0 line ≡ true → holdsTable words ≡ true → linesFor line words ≡ savedForm (tableOf words)
+unfolding linesFor
+told-whole line words m h = let read : printingRead (bytesOf line) ≡ true = printing-shaped line ∙ m in rw (h, read) refl
+
+-- saving, as it stands in a line space and as it is told
+module _ (line words : List ℕ) (t : typeOf line ≡ printing .typeByte) where
+  module _ (place : ℕ) (out : List ℕ) (long : length out ≡ longestAnswer) where
+    abbrev given : Saved × List ℕ
+    given = savedBy line words place out
+
+    room : 149 ≤ length out
+    room = omega (arith, long)
+
+    at-place : (a : Answered) (y : List ℕ) → (a, y) ≡ printedAt (linesFor line words) place out → answeredBy line place words out ≡ (a, (words, y))
+    at-place a y e = sym (answer-formed line words out (typeOf line) refl t place long a y e)
+
+    told-saved : (q : Saved) → given .0 ≡ q → answeredBy line place words out ≡ savedTold words place (q, given .1)
+    unfolding savedTold
+    told-saved (saved.Refused number) h =
+        let told = printedAt (refusalBytes number ∷ []) place (given .1) in
+        at-place (told .0) (told .1) (form-refused line words out t room place (given .0) (given .1) refl number h (told .0) (told .1) refl)
+    told-saved (saved.Line n) h = at-place (answered.Line n) (given .1) (form-line line words out t room place (given .0) (given .1) refl n h)
+    told-saved saved.End h = at-place answered.End (given .1) (form-end line words out t room place (given .0) (given .1) refl h)
+
+  told-form : (place : ℕ) (out : List ℕ) → length out ≡ longestAnswer → answeredBy line place words out ≡ savedTold words place (savedBy line words place out)
+  told-form place out long = told-saved place out long (savedBy line words place out .0) refl
+
+  told-no-form : holdsTable words ≡ false → linesFor line words ≡ refusalBytes 14 ∷ []
+  unfolding linesFor
+  told-no-form f = rw (by-table line words 96 t, f) refl
+
+  told-misshapen : isLineOf printing 0 line ≡ false → holdsTable words ≡ true → linesFor line words ≡ refusalBytes 1 ∷ []
+  unfolding linesFor answerOn
+  told-misshapen m h = let unread : printingRead (bytesOf line) ≡ false = printing-shaped line ∙ m in rw (by-table line words 96 t, h, unread) refl
+
+module _ (line words : List ℕ) where
+  told-question : typeOf line ≡ question .typeByte → answerOf line words ≡ (repliedTold (repliedBy line words (zeros 512)), words)
+  unfolding answerOn repliedBy repliedTold
+  told-question z = by-table line words 64 z ∙ by (holdsTable words)
+    where
+      by : (b : Bool) → pick {A = List ℕ × List ℕ} b (questionAnswer line words, words) (refusalBytes 14, words) ≡ (repliedTold (pick b (repliedOn line words (zeros 512)) (reply.Refused 14, zeros 512)), words)
+      by true = ap (λ (l : List ℕ). (l, words)) (question-told line words)
+      by false = refl
+
+  told-issue : typeOf line ≡ issue .typeByte → characters (answerOf line words) ≡ issuedTold (calls.issuedBy line words (zeros 147))
+  unfolding answerOn calls.issuedBy issuedTold
+  told-issue z = ap characters (by-table line words 33 z) ∙ by (holdsTable words) (issue-told line words)
+    where
+      by : (b : Bool) → (b ≡ true → characters (issueAnswer line words) ≡ issuedTold (issuedOn line words (zeros 147))) →
+          characters (pick b (issueAnswer line words) (refusalBytes 14, words)) ≡ issuedTold (pick b (issuedOn line words (zeros 147)) (issued.Refused 14, (words, zeros 147)))
+      by true f = f refl
+      by false f = refl
+
+  -- so a refusal number is given to a line exactly when its call gives it (`exactly-when`), and to no other
+  pub by-type : ByType line words
+  by-type = record {
+    frame = told-frame line words;
+    local = told-issue;
+    settled = told-settling line words;
+    asked = told-question;
+    opened = told-opening line words;
+    second = told-second line words;
+    one-line = λ n. one-line line words [] (typeOf line) refl n;
+    form = told-form line words;
+    whole-form = told-whole line words;
+    no-form = told-no-form line words;
+    misshapen = told-misshapen line words;
+  }
+
+-- "a refusal changes no byte": what each answer leaves, where it does not begin with `00`
+module _ (line words : List ℕ) where
+  abbrev Quiet : List ℕ × List ℕ → Type 0
+  Quiet (bytes, after) = isDone bytes ≡ false → after ≡ words
+
+  quiet-frame : (x : meaning.Outcome) → Quiet (changing receivedBytes (receivedAs words x))
+  unfolding receivedAs receivedBytes
+  quiet-frame (meaning.Outcome.refused number) f = refl
+  quiet-frame (meaning.Outcome.accepted u table) f = absurd (false≢true (sym f ∙ done-is-done))
+
+  quiet-issue : (x : meaning.Outcome) → Quiet (issuedBytes words x)
+  unfolding issuedBytes isDone
+  quiet-issue (meaning.Outcome.refused number) f = refl
+  quiet-issue (meaning.Outcome.accepted u table) f = absurd (false≢true (sym f))
+
+  quiet-settling : (x : meaning.Settled) → Quiet (changing settledBytes (settledAs words x))
+  unfolding settledAs settledBytes isDone lineBytes written bigEndian
+  quiet-settling (meaning.Settled.refused number) f = refl
+  quiet-settling (meaning.Settled.settled steps table) f = absurd (false≢true (sym f))
+
+  quiet-opening : (x : meaning.Opening) → Quiet (changing openedBytes (openedAs words x))
+  unfolding openedAs openedBytes
+  quiet-opening (meaning.Opening.refused number) f = refl
+  quiet-opening (meaning.Opening.fresh table) f = absurd (false≢true (sym f ∙ done-is-done))
+
+  quiet-table : Quiet (answerOn (typeOf line) line words)
+  unfolding answerOn receivedOn issueAnswer settledOn
+  quiet-table = by (eqb (typeOf line) 32) (eqb (typeOf line) 33) (eqb (typeOf line) 48) (eqb (typeOf line) 64) (eqb (typeOf line) 16)
+    where
+      frames : (b : Bool) → Quiet (changing receivedBytes (pick b (receivedAs words (meaning.receive (tableOf words) (frameOf (operationRead (bytesOf line))))) (received.Refused 1, words)))
+      frames true = quiet-frame (meaning.receive (tableOf words) (frameOf (operationRead (bytesOf line))))
+      frames false = λ _. refl
+
+      locals : (b : Bool) → Quiet (pick b (issuedBytes words (meaning.issue (tableOf words) (localOf (issueRead (bytesOf line))))) (refusalBytes 1, words))
+      locals true = quiet-issue (meaning.issue (tableOf words) (localOf (issueRead (bytesOf line))))
+      locals false = λ _. refl
+
+      settlings : (b : Bool) → Quiet (changing settledBytes (pick b (settledAs words (meaning.settle (tableOf words) (settlingRead (bytesOf line) .limit))) (settled.Refused 1, words)))
+      settlings true = quiet-settling (meaning.settle (tableOf words) (settlingRead (bytesOf line) .limit))
+      settlings false = λ _. refl
+
+      by : (a b c d e : Bool) → Quiet (pick a (changing receivedBytes (receivedOn line words)) (pick b (issueAnswer line words) (pick c (changing settledBytes (settledOn line words)) (pick d (questionAnswer line words, words) (pick e (secondOpening line, words) (refusalBytes 1, words))))))
+      by true b c d e = frames (operationRead (bytesOf line) .ok)
+      by false true c d e = locals (issueRead (bytesOf line) .ok)
+      by false false true d e = settlings (settlingRead (bytesOf line) .ok)
+      by false false false true e = λ _. refl
+      by false false false false true = λ _. refl
+      by false false false false false = λ _. refl
+
+  pub refused-changes-nothing : isDone (answerOf line words .0) ≡ false → answerOf line words .1 ≡ words
+  unfolding answerOf openedBy
+  refused-changes-nothing = by (holdsTable words) (eqb (typeOf line) 16) (openingRead (bytesOf line) .ok)
+    where
+      opens : meaning.Opening
+      opens = meaning.openTable (length words) (spaceFor (headerRead (bytesOf line) .size) (headerRead (bytesOf line) .capacity)) (headerRead (bytesOf line))
+
+      by : (b c d : Bool) → Quiet (pick b (answerOn (typeOf line) line words) (pick c (changing openedBytes (pick d (openedAs words opens) (opened.Refused 1, words))) (refusalBytes 14, words)))
+      by true c d = quiet-table
+      by false true true = quiet-opening opens
+      by false true false = λ _. refl
+      by false false d = λ _. refl

@@ -1,0 +1,80 @@
+-- `line_hex::decode` meets its contract. The loop keeps `Decoding`: so many bytes stand in the buffer, and the rest of the line is still to be read.
+use Rattle.line_hex.proofs.Reading.{Decoding, decoding-start, decoding-turn, decoding-stopped, decoding-full}
+use Prim.Native.Nat.{_-_}
+use lib.ListN.{length}
+use borrow.Author.Needs.{needs}
+use Rattle.line_hex.proofs.decode.Statement.{statement}
+use Rattle.line_hex.proofs.decode.Tie as tie
+
+abbrev Inv-loop : tie.InvT-loop
+Inv-loop line into₀ at₀ count₀ into at count = Decoding line into₀ into at count
+
+abbrev μ-loop : tie.MeasureT-loop
+μ-loop line into₀ at₀ count₀ into at count = length into₀ - count
+
+loop-holds : tie.Need-loop-holds Inv-loop μ-loop
+loop-holds c = search decoding-start
+
+pair-at-requires : tie.Need-pair-at-requires Inv-loop μ-loop
+pair-at-requires c κs = tt
+
+enum-known-byte : tie.Need-enum-known-byte Inv-loop μ-loop
+enum-known-byte c = search needs
+
+slice-write-into : tie.Need-slice-write-into Inv-loop μ-loop
+slice-write-into c = search needs
+
+add-count : tie.Need-add-count Inv-loop μ-loop
+add-count c = search needs
+
+add-at : tie.Need-add-at Inv-loop μ-loop
+add-at c = search needs
+
+loop-less : tie.Need-loop-less Inv-loop μ-loop
+loop-less c = search needs
+
+loop-again : tie.Need-loop-again Inv-loop μ-loop
+loop-again c = search decoding-turn
+
+enum-told : tie.Need-enum-told Inv-loop μ-loop
+enum-told c = search needs
+
+ended-at-requires : tie.Need-ended-at-requires Inv-loop μ-loop
+ended-at-requires c κs = tt
+
+same-length : tie.Need-same-length Inv-loop μ-loop
+same-length c = search needs
+
+returns : tie.Need-returns Inv-loop μ-loop
+returns c = search decoding-stopped
+
+ended-at-requires-2 : tie.Need-ended-at-requires-2 Inv-loop μ-loop
+ended-at-requires-2 c κs = tt
+
+same-length-2 : tie.Need-same-length-2 Inv-loop μ-loop
+same-length-2 c = search needs
+
+returns-2 : tie.Need-returns-2 Inv-loop μ-loop
+returns-2 c = search decoding-full
+
+pub decode-spec : {M : Type 1} → statement M
+decode-spec =
+    tie.close
+    (tie.spec
+    Inv-loop
+    μ-loop
+    loop-holds
+    pair-at-requires
+    enum-known-byte
+    slice-write-into
+    add-count
+    add-at
+    loop-less
+    loop-again
+    enum-told
+    ended-at-requires
+    same-length
+    returns
+    ended-at-requires-2
+    same-length-2
+    returns-2)

@@ -1,0 +1,76 @@
+-- `line_hex::put_number` meets its contract. The loop keeps `Putting`: the bytes still to be written stand in front of what is written already.
+use lib.ListN.{length-set}
+use Rattle.line_hex.proofs.Writing.{Putting, putting-start, putting-turn, putting-done}
+use native.Mathlib.Omega.{arith}
+use borrow.Author.Needs.{needs}
+use Rattle.line_hex.proofs.put_number.Statement.{statement}
+use Rattle.line_hex.proofs.put_number.Tie as tie
+
+abbrev Inv-loop : tie.InvT-loop
+Inv-loop out₀ at number width end to₀ left₀ rest₀ out to left rest = Putting out₀ at number width end out to left rest
+
+abbrev μ-loop : tie.MeasureT-loop
+μ-loop out₀ at number width end to₀ left₀ rest₀ out to left rest = left
+
+mul-end : tie.Need-mul-end Inv-loop μ-loop
+mul-end c = search needs
+
+add-end : tie.Need-add-end Inv-loop μ-loop
+add-end c = search needs
+
+loop-holds : tie.Need-loop-holds Inv-loop μ-loop
+loop-holds c = search (putting-start, arith)
+
+sub-left : tie.Need-sub-left Inv-loop μ-loop
+sub-left c = search needs
+
+sub-to : tie.Need-sub-to Inv-loop μ-loop
+sub-to c = search needs
+
+digit-of-requires : tie.Need-digit-of-requires Inv-loop μ-loop
+digit-of-requires c κs = tt
+
+slice-write-out : tie.Need-slice-write-out Inv-loop μ-loop
+slice-write-out c = search needs
+
+digit-of-requires-2 : tie.Need-digit-of-requires-2 Inv-loop μ-loop
+digit-of-requires-2 c κs = tt
+
+add-out : tie.Need-add-out Inv-loop μ-loop
+add-out c = search needs
+
+slice-write-out-2 : tie.Need-slice-write-out-2 Inv-loop μ-loop
+slice-write-out-2 c = simp length-set (omega arith)
+
+loop-less : tie.Need-loop-less Inv-loop μ-loop
+loop-less c = search needs
+
+loop-again : tie.Need-loop-again Inv-loop μ-loop
+loop-again c = search putting-turn
+
+same-length : tie.Need-same-length Inv-loop μ-loop
+same-length c = search needs
+
+returns : tie.Need-returns Inv-loop μ-loop
+returns c = search putting-done
+
+pub put-number-spec : {M : Type 1} → statement M
+put-number-spec =
+    tie.close
+    (tie.spec
+    Inv-loop
+    μ-loop
+    mul-end
+    add-end
+    loop-holds
+    sub-left
+    sub-to
+    digit-of-requires
+    slice-write-out
+    digit-of-requires-2
+    add-out
+    slice-write-out-2
+    loop-less
+    loop-again
+    same-length
+    returns)

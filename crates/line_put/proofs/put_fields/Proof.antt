@@ -1,0 +1,65 @@
+-- `line_put::put_fields` meets its contract. The loop keeps `Fielding`: the fields that are left are laid from the next place on.
+use Prim.Native.Nat.{_-_}
+use lib.ListN.{length}
+use Rattle.line_put.proofs.Laying.{Fielding, fielding-start, fielding-room, fielding-turn, fielding-done}
+use native.Mathlib.Omega.{arith}
+use borrow.Author.Needs.{needs}
+use Rattle.line_put.proofs.put_fields.Statement.{statement}
+use Rattle.line_put.proofs.put_fields.Tie as tie
+
+abbrev Inv-loop : tie.InvT-loop
+Inv-loop out₀ at widths fields to₀ i₀ out to i = Fielding out₀ at widths fields out to i
+
+abbrev μ-loop : tie.MeasureT-loop
+μ-loop out₀ at widths fields to₀ i₀ out to i = length widths - i
+
+loop-holds : tie.Need-loop-holds Inv-loop μ-loop
+loop-holds c = search fielding-start
+
+mul-put-number : tie.Need-mul-put-number Inv-loop μ-loop
+mul-put-number c = search needs
+
+shared-slice-read-put-number : tie.Need-shared-slice-read-put-number Inv-loop μ-loop
+shared-slice-read-put-number c = search needs
+
+shared-slice-read-put-number-2 : tie.Need-shared-slice-read-put-number-2 Inv-loop μ-loop
+shared-slice-read-put-number-2 c = search needs
+
+cast-put-number : tie.Need-cast-put-number Inv-loop μ-loop
+cast-put-number c = omega (arith, c .shared-slice-known4 .given (c .before .before .before .before .loop .i))
+
+put-number-requires : tie.Need-put-number-requires Inv-loop μ-loop
+put-number-requires c κs = search fielding-room
+
+add-i : tie.Need-add-i Inv-loop μ-loop
+add-i c = search needs
+
+loop-less : tie.Need-loop-less Inv-loop μ-loop
+loop-less c = search needs
+
+loop-again : tie.Need-loop-again Inv-loop μ-loop
+loop-again c = search fielding-turn
+
+same-length : tie.Need-same-length Inv-loop μ-loop
+same-length c = search needs
+
+returns : tie.Need-returns Inv-loop μ-loop
+returns c = search fielding-done
+
+pub put-fields-spec : {M : Type 1} → statement M
+put-fields-spec =
+    tie.close
+    (tie.spec
+    Inv-loop
+    μ-loop
+    loop-holds
+    mul-put-number
+    shared-slice-read-put-number
+    shared-slice-read-put-number-2
+    cast-put-number
+    put-number-requires
+    add-i
+    loop-less
+    loop-again
+    same-length
+    returns)

@@ -1,0 +1,25 @@
+-- `line_read::read_settling` meets its contract.
+use mathlib.Core.Path.{ap, refl}
+use Rattle.line_read.specs.Types.{lineRead, settling}
+use Rattle.line_read.specs.Named.{settlingOf, settlingRead}
+use Rattle.line_read.proofs.Known.{known}
+use borrow.Author.Needs.{needs}
+use Rattle.line_read.proofs.read_settling.Statement.{statement}
+use Rattle.line_read.proofs.read_settling.Tie as tie
+
+slice-aggregate-read-fields : tie.Need-slice-aggregate-read-fields
+slice-aggregate-read-fields c = search needs
+
+read-fields-requires : tie.Need-read-fields-requires
+read-fields-requires c κs = known settling refl .head
+
+array-read-t9 : tie.Need-array-read-t9
+array-read-t9 c = search needs
+
+returns : tie.Need-returns
+unfolding settlingRead lineRead
+returns c = ap settlingOf (c .before .read-fields .ensures)
+
+pub read-settling-spec : {M : Type 1} → statement M
+read-settling-spec =
+    tie.close (tie.spec slice-aggregate-read-fields read-fields-requires array-read-t9 returns)

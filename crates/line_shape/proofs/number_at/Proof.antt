@@ -1,0 +1,66 @@
+-- `line_shape::number_at` meets its contract. The loop keeps `Counting`: the bytes that are left follow the number so far.
+use Rattle.line_shape.proofs.Counting.{Counting, counting-start, counting-shift, counting-add, counting-turn, counting-ended, counting-done}
+use borrow.Author.Needs.{needs}
+use Rattle.line_shape.proofs.number_at.Statement.{statement}
+use Rattle.line_shape.proofs.number_at.Tie as tie
+
+abbrev Inv-loop : tie.InvT-loop
+Inv-loop s at width number₀ from₀ left₀ number from left = Counting s at width number from left
+
+abbrev μ-loop : tie.MeasureT-loop
+μ-loop s at width number₀ from₀ left₀ number from left = left
+
+loop-holds : tie.Need-loop-holds Inv-loop μ-loop
+loop-holds c = search counting-start
+
+byte-at-requires : tie.Need-byte-at-requires Inv-loop μ-loop
+byte-at-requires c κs = tt
+
+enum-known-byte : tie.Need-enum-known-byte Inv-loop μ-loop
+enum-known-byte c = search needs
+
+mul-number : tie.Need-mul-number Inv-loop μ-loop
+mul-number c = search counting-shift
+
+wide-requires : tie.Need-wide-requires Inv-loop μ-loop
+wide-requires c κs = tt
+
+add-number : tie.Need-add-number Inv-loop μ-loop
+add-number c = search counting-add
+
+sub-left : tie.Need-sub-left Inv-loop μ-loop
+sub-left c = search needs
+
+loop-less : tie.Need-loop-less Inv-loop μ-loop
+loop-less c = search needs
+
+loop-again : tie.Need-loop-again Inv-loop μ-loop
+loop-again c = search counting-turn
+
+enum-told : tie.Need-enum-told Inv-loop μ-loop
+enum-told c = search needs
+
+returns : tie.Need-returns Inv-loop μ-loop
+returns c = search counting-ended
+
+returns-2 : tie.Need-returns-2 Inv-loop μ-loop
+returns-2 c = search counting-done
+
+pub number-at-spec : {M : Type 1} → statement M
+number-at-spec =
+    tie.close
+    (tie.spec
+    Inv-loop
+    μ-loop
+    loop-holds
+    byte-at-requires
+    enum-known-byte
+    mul-number
+    wide-requires
+    add-number
+    sub-left
+    loop-less
+    loop-again
+    enum-told
+    returns
+    returns-2)

@@ -1,0 +1,57 @@
+use borrow.Author.Needs.{needs}
+use Rattle.question_list.proofs.Lists.{Writing, writing-start, writing-done, one-left, to-within, writing-next}
+use Rattle.question_list.proofs.list_into.Statement.{statement}
+use Rattle.question_list.proofs.list_into.Tie as tie
+
+abbrev Inv-loop : tie.InvT-loop
+Inv-loop s object out₀ passed₀ to₀ left₀ out passed to left = Writing s object out₀ out passed to left
+
+abbrev μ-loop : tie.MeasureT-loop
+μ-loop s object out₀ passed₀ to₀ left₀ out passed to left = left
+
+loop-holds : tie.Need-loop-holds Inv-loop μ-loop
+loop-holds c = search writing-start
+
+next-value-requires : tie.Need-next-value-requires Inv-loop μ-loop
+next-value-requires c κs = (search needs, search one-left)
+
+mul-out : tie.Need-mul-out Inv-loop μ-loop
+mul-out c = search needs
+
+slice-write-out : tie.Need-slice-write-out Inv-loop μ-loop
+slice-write-out c = search to-within
+
+add-to : tie.Need-add-to Inv-loop μ-loop
+add-to c = search needs
+
+sub-left : tie.Need-sub-left Inv-loop μ-loop
+sub-left c = search needs
+
+loop-less : tie.Need-loop-less Inv-loop μ-loop
+loop-less c = search needs
+
+loop-again : tie.Need-loop-again Inv-loop μ-loop
+loop-again c = search writing-next
+
+same-length : tie.Need-same-length Inv-loop μ-loop
+same-length c = search needs
+
+returns : tie.Need-returns Inv-loop μ-loop
+returns c = search writing-done
+
+pub list-into-spec : {M : Type 1} → statement M
+list-into-spec =
+    tie.close
+    (tie.spec
+    Inv-loop
+    μ-loop
+    loop-holds
+    next-value-requires
+    mul-out
+    slice-write-out
+    add-to
+    sub-left
+    loop-less
+    loop-again
+    same-length
+    returns)

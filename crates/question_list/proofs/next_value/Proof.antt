@@ -1,0 +1,77 @@
+use borrow.Author.Needs.{needs}
+use Rattle.question_list.proofs.Walks.{passed-most, passed-fits, from-fits, rest-room, sum-fits, next-fits, before-fits, at-fits, low-fits, low-scaled, low-within, walked}
+use Rattle.question_list.proofs.next_value.Statement.{statement}
+use Rattle.question_list.proofs.next_value.Tie as tie
+
+row-width-requires : tie.Need-row-width-requires
+row-width-requires c κs = search needs
+
+rows-start-requires : tie.Need-rows-start-requires
+rows-start-requires c κs = search needs
+
+wide-requires : tie.Need-wide-requires
+wide-requires c κs = search needs
+
+mul-from : tie.Need-mul-from
+mul-from c = search passed-fits
+
+add-from : tie.Need-add-from
+add-from c = search from-fits
+
+shared-slice-read-t13 : tie.Need-shared-slice-read-t13
+shared-slice-read-t13 c = search needs
+
+sub-t14 : tie.Need-sub-t14
+sub-t14 c = search passed-most
+
+next-shown-requires : tie.Need-next-shown-requires
+next-shown-requires c κs = (search rest-room, search needs)
+
+wide-requires-2 : tie.Need-wide-requires-2
+wide-requires-2 c κs = search needs
+
+mul-at : tie.Need-mul-at
+mul-at c = search before-fits
+
+add-at : tie.Need-add-at
+add-at c = search at-fits
+
+add-t10 : tie.Need-add-t10
+add-t10 c = search low-fits
+
+mul-t9 : tie.Need-mul-t9
+mul-t9 c = search low-scaled
+
+shared-slice-read-t14 : tie.Need-shared-slice-read-t14
+shared-slice-read-t14 c = search low-within
+
+add-t13 : tie.Need-add-t13
+add-t13 c = search sum-fits
+
+add-t17 : tie.Need-add-t17
+add-t17 c = search next-fits
+
+returns : tie.Need-returns
+returns c = search walked
+
+pub next-value-spec : {M : Type 1} → statement M
+next-value-spec =
+    tie.close
+    (tie.spec
+    row-width-requires
+    rows-start-requires
+    wide-requires
+    mul-from
+    add-from
+    shared-slice-read-t13
+    sub-t14
+    next-shown-requires
+    wide-requires-2
+    mul-at
+    add-at
+    add-t10
+    mul-t9
+    shared-slice-read-t14
+    add-t13
+    add-t17
+    returns)

@@ -1,0 +1,71 @@
+use Rattle.question_scan.specs.Showing.{countShown}
+use Rattle.question_scan.proofs.Scanning.{Passing, passing-start, step-most, step-small, step-fits, behind-fits, counting-room, counting-next, counting-none, counting-done}
+use native.Mathlib.Omega.{arith}
+use borrow.Author.Needs.{needs}
+use Rattle.question_scan.proofs.count_shown.Statement.{statement}
+use Rattle.question_scan.proofs.count_shown.Tie as tie
+use Rattle.question_scan.proofs.count_shown.Reads as reads
+use Rattle.question_scan.proofs.count_shown.Lts as lts
+use Rattle.question_scan.proofs.next_shown.Reads as next-shown-reads
+use Rattle.words_tags.proofs.wide.Reads as wide-reads
+
+abbrev Inv-loop : tie.InvT-loop
+Inv-loop rows width object at₀ more₀ found₀ at more found = Passing rows width 0 more₀ (countShown object) at more found
+
+abbrev μ-loop : tie.MeasureT-loop
+μ-loop rows width object at₀ more₀ found₀ at more found = more
+
+loop-holds : tie.Need-loop-holds Inv-loop μ-loop
+loop-holds c = search passing-start
+
+next-shown-requires : tie.Need-next-shown-requires Inv-loop μ-loop
+next-shown-requires c κs = (search counting-room, search needs)
+
+returns : tie.Need-returns Inv-loop μ-loop
+returns c = search counting-none
+
+add-step : tie.Need-add-step Inv-loop μ-loop
+add-step c = search (step-small, arith)
+
+wide-requires : tie.Need-wide-requires Inv-loop μ-loop
+wide-requires c κs = search needs
+
+mul-at : tie.Need-mul-at Inv-loop μ-loop
+mul-at c = search (step-fits, counting-room)
+
+add-at : tie.Need-add-at Inv-loop μ-loop
+add-at c = search (behind-fits, counting-room)
+
+sub-more : tie.Need-sub-more Inv-loop μ-loop
+sub-more c = search step-most
+
+add-found : tie.Need-add-found Inv-loop μ-loop
+add-found c = search needs
+
+loop-less : tie.Need-loop-less Inv-loop μ-loop
+loop-less c = search needs
+
+loop-again : tie.Need-loop-again Inv-loop μ-loop
+loop-again c = search counting-next
+
+returns-2 : tie.Need-returns-2 Inv-loop μ-loop
+returns-2 c = search counting-done
+
+pub count-shown-spec : {M : Type 1} → statement M
+count-shown-spec =
+    tie.close
+    (tie.spec
+    Inv-loop
+    μ-loop
+    loop-holds
+    next-shown-requires
+    returns
+    add-step
+    wide-requires
+    mul-at
+    add-at
+    sub-more
+    add-found
+    loop-less
+    loop-again
+    returns-2)

@@ -1,0 +1,3 @@
+pub mod Turns
+pub mod Passing
+pub mod Looping

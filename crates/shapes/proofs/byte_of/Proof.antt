@@ -1,8 +1,0 @@
--- `shapes::byte_of` meets its contract.
-use Rattle.shapes.proofs.Found.{byte-found, no-byte-found}
-use borrow.Author.Needs.{needs}
-use Rattle.shapes.proofs.byte_of.Statement.{statement}
-use Rattle.shapes.proofs.byte_of.Tie as tie
-
-pub byte-of-spec : {M : Type 1} → statement M
-byte-of-spec = tie.close (tie.spec (λ c. search needs) (λ c κs. search needs) (λ c. search needs) (λ c. search byte-found) (λ c. search no-byte-found))

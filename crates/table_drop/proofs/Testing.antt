@@ -1,0 +1,104 @@
+-- The tests of a row, in the words of the meaning.
+use Prim.Native.Nat.{ℕ, _+_, _-_, _<_}
+use mathlib.Core.Path.{_≡_, refl, sym, _∙_}
+use mathlib.Core.Bool.{Bool, true, false}
+use mathlib.Core.List.{List}
+use native.Mathlib.Omega.{arith}
+use borrow.Author.Tests.{eqb-true, eq-eqb, ne-eqb}
+use lib.Dec.{eqb}
+use lib.ListN.{length, getD, take, drop, length-drop}
+use lib.Seq.{take-all}
+use mir.Val.{Fits}
+use mir.Syntax.{w32}
+use Rattle.meaning.specs.Order.{beforeByVector}
+use Rattle.meaning.specs.Operations.{Operation, before, isCounter}
+use Rattle.meaning.specs.Meaning.{on}
+use Rattle.meaning.specs.Rows.{Row}
+use Rattle.meaning.specs.Arrival.{concerns, rowBefore, takenBy, sameValue}
+use Rattle.meaning.proofs.Tests.{cases, iff}
+use Rattle.words_layout.specs.Words.{ofTwoWords}
+use Rattle.words_layout.specs.Layout.{rowOf}
+use Rattle.table_drop.specs.declared.Arrival.{Arrival}
+use Rattle.table_drop.specs.Arriving.{operationOf, concernsValue, isKept, goes}
+
+-- a value is compared by its words
+module _ (high low rh rl : ℕ) (a : low < 4294967296) (b : rl < 4294967296) where
+  value-other : (high ≡ rh → ⊥) → eqb (ofTwoWords high low) (ofTwoWords rh rl) ≡ false
+  value-other h = ne-eqb (ofTwoWords high low) (ofTwoWords rh rl) (λ e. h (omega arith))
+
+  value-low : high ≡ rh → eqb low rl ≡ eqb (ofTwoWords high low) (ofTwoWords rh rl)
+  value-low h = iff (eqb low rl) (eqb (ofTwoWords high low) (ofTwoWords rh rl)) (λ e. eq-eqb (ofTwoWords high low) (ofTwoWords rh rl) (omega (arith, eqb-true low rl e))) (λ e. eq-eqb low rl (omega (arith, eqb-true (ofTwoWords high low) (ofTwoWords rh rl) e)))
+
+module _ (a : Arrival) (high low : ℕ) where
+  pub concerns-register : a .kind ≡ 7 → true ≡ concernsValue a high low
+  concerns-register e = rw (eq-eqb (a .kind) 7 e) refl
+
+  pub concerns-clear : a .code ≡ 3 → true ≡ concernsValue a high low
+  concerns-clear e = cases (eqb (a .kind) 7) (λ p. rw p refl) (λ p. rw (p, eq-eqb (a .code) 3 e) refl)
+
+  module _ (k : a .kind ≡ 7 → ⊥) (c : a .code ≡ 3 → ⊥) (fa : a .low < 4294967296) (fb : low < 4294967296) where
+    pub concerns-other : (a .high ≡ high → ⊥) → false ≡ concernsValue a high low
+    concerns-other h = rw (ne-eqb (a .kind) 7 k, ne-eqb (a .code) 3 c, value-other (a .high) (a .low) high low fa fb h) refl
+
+    pub concerns-low : a .high ≡ high → eqb (a .low) low ≡ concernsValue a high low
+    concerns-low h = rw (ne-eqb (a .kind) 7 k, ne-eqb (a .code) 3 c) (value-low (a .high) (a .low) high low fa fb h)
+
+-- the same object and value
+module _ (row v : List ℕ) (a : Arrival) where
+  pub same-other-object : (getD row 0 0 ≡ a .object → ⊥) → false ≡ sameValue (operationOf a v) (rowOf row)
+  unfolding sameValue on
+  same-other-object h = rw (ne-eqb (getD row 0 0) (a .object) h) refl
+
+  module _ (o : getD row 0 0 ≡ a .object) (fa : a .low < 4294967296) (known : (i : ℕ) → Fits w32 (getD row i 0)) where
+    fb : getD row 2 0 < 4294967296
+    fb = omega (arith, known 2)
+
+    pub same-other-high : (getD row 1 0 ≡ a .high → ⊥) → false ≡ sameValue (operationOf a v) (rowOf row)
+    unfolding sameValue on
+    same-other-high h = rw (eq-eqb (getD row 0 0) (a .object) o, value-other (getD row 1 0) (getD row 2 0) (a .high) (a .low) fb fa h) refl
+
+    pub same-low : getD row 1 0 ≡ a .high → eqb (getD row 2 0) (a .low) ≡ sameValue (operationOf a v) (rowOf row)
+    unfolding sameValue on
+    same-low h = rw (eq-eqb (getD row 0 0) (a .object) o) (value-low (getD row 1 0) (getD row 2 0) (a .high) (a .low) fb fa h)
+
+  -- what the arrival takes
+  abbrev taken : Bool
+  taken = takenBy (a .kind) (operationOf a v) (rowOf row)
+
+  pub takes-other : (getD row 0 0 ≡ a .object → ⊥) → false ≡ taken
+  unfolding takenBy concerns
+  takes-other h = rw (ne-eqb (a .object) (getD row 0 0) (λ e. h (sym e))) refl
+
+  module _ (o : getD row 0 0 ≡ a .object) (t : Bool) (e : t ≡ concernsValue a (getD row 1 0) (getD row 2 0)) where
+    pub takes-untouched : t ≡ false → false ≡ taken
+    unfolding takenBy concerns
+    takes-untouched f = rw (eq-eqb (a .object) (getD row 0 0) (sym o), sym e ∙ f) refl
+
+    pub takes-settled : t ≡ true → getD row 4 0 ≡ 0 → true ≡ taken
+    unfolding takenBy concerns rowBefore
+    takes-settled f z = rw (eq-eqb (a .object) (getD row 0 0) (sym o), sym e ∙ f, eq-eqb (getD row 4 0) 0 z) refl
+
+    pub takes-before : t ≡ true → (getD row 4 0 ≡ 0 → ⊥) → length row ≡ 7 + length v → (b : Bool) → b ≡ beforeByVector (take (length row - 7) (drop 7 row)) v → b ≡ taken
+    unfolding takenBy concerns rowBefore before
+    takes-before f z l b g =
+        let q : take (length row - 7) (drop 7 row) ≡ drop 7 row = take-all (length row - 7) (drop 7 row) (simp length-drop (omega arith)) in
+        rw (eq-eqb (a .object) (getD row 0 0) (sym o), sym e ∙ f, ne-eqb (getD row 4 0) 0 z) (g ∙ rw q refl)
+
+-- whether a row goes
+module _ (kind : ℕ) (t : Operation) (row : Row) (c : Bool) (ec : c ≡ isCounter kind) where
+  pub goes-counter : c ≡ true → false ≡ goes kind t row
+  unfolding goes
+  goes-counter h = rw (sym ec ∙ h) refl
+
+  module _ (nc : c ≡ false) (k : Bool) (ek : k ≡ isKept kind) where
+    pub goes-added : k ≡ true → t .code ≡ 1 → false ≡ goes kind t row
+    unfolding goes
+    goes-added h e = rw (sym ec ∙ nc, sym ek ∙ h, eq-eqb (t .code) 1 e) refl
+
+    pub goes-same : k ≡ true → (t .code ≡ 1 → ⊥) → (r : Bool) → r ≡ sameValue t row → r ≡ goes kind t row
+    unfolding goes
+    goes-same h e r f = rw (sym ec ∙ nc, sym ek ∙ h, ne-eqb (t .code) 1 e) f
+
+    pub goes-taken : k ≡ false → (r : Bool) → r ≡ takenBy kind t row → r ≡ goes kind t row
+    unfolding goes
+    goes-taken h r f = rw (sym ec ∙ nc, sym ek ∙ h) f

@@ -1,0 +1,17 @@
+-- `table_ranges::rows_at` meets its contract: the square of at most 16 fits.
+use Rattle.table_ranges.proofs.Heading.{square-fits, rows-place-fits, rows-place}
+use borrow.Author.Needs.{needs}
+use Rattle.table_ranges.proofs.rows_at.Statement.{statement}
+use Rattle.table_ranges.proofs.rows_at.Tie as tie
+
+mul-result : tie.Need-mul-result
+mul-result c = search square-fits
+
+add-result-2 : tie.Need-add-result-2
+add-result-2 c = search rows-place-fits
+
+returns : tie.Need-returns
+returns c = (search needs, search rows-place)
+
+pub rows-at-spec : {M : Type 1} → statement M
+rows-at-spec = tie.close (tie.spec (λ c. search needs) mul-result add-result-2 returns)
