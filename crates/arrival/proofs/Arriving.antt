@@ -26,7 +26,7 @@ use Rattle.words_layout.proofs.RowWords.{Shaped}
 use Rattle.words_layout.proofs.Whole.{those-short}
 use Rattle.words_layout.proofs.Reading.{Well}
 use Rattle.words_layout.proofs.Changing.{Sized, well, sized, laid-rewritten, reread, and-then}
-use Rattle.table_totals.specs.Changes.{change}
+use Rattle.table_change.specs.TotalChange.{change}
 use Rattle.table_drop.specs.Arriving.{operationOf, isKept, goes, puts, rowFor}
 use Rattle.table_drop.specs.declared.Arrival.{Arrival}
 use Rattle.table_change.specs.Changes.{Opened, rowsLeft, totalsChanged, entryBelowLimit}

@@ -27,7 +27,7 @@ use Rattle.table_drop.specs.Arriving.{operationOf}
 use Rattle.table_drop.specs.declared.Arrival.{Arrival}
 use Rattle.table_change.specs.Changes.{entryBelowLimit}
 use Rattle.table_change.proofs.Changing.{all-of, opened}
-use Rattle.table_checked.specs.Checked.{Checked}
+use Rattle.table_rules.specs.Checked.{Checked}
 use Rattle.arrival.specs.Arrives.{Arrives, arrivalFrom, hasRoom}
 use Rattle.arrival.proofs.Arriving.{opened-again, spells}
 use Rattle.arrival.proofs.Kept.{table-back, table-held}

@@ -4,7 +4,7 @@ ghost use lib.ListN.{length, set};
 ghost use Rattle.meaning.specs.Refusals.{firstOf, frameRefusals, refusalOfFrame};
 ghost use Rattle.meaning.specs.Calls.{afterArrival};
 ghost use Rattle.words_layout.specs.Layout.{rewritten, sizeIn, tableOf};
-ghost use Rattle.table_checked.specs.Checked.{Checked};
+ghost use Rattle.table_rules.specs.Checked.{Checked};
 ghost use Rattle.refusal_order.specs.Fields.{frameFrom};
 ghost use Rattle.arrival_frame.specs.Receiving.{receivedBy};
 use arrival::FULL;

@@ -8,7 +8,7 @@ ghost use Rattle.meaning.specs.Calls.{afterArrival};
 ghost use Rattle.words_layout.specs.Words.{padded};
 ghost use Rattle.words_layout.specs.Layout.{ownIn, rewritten, sizeIn, tableOf};
 ghost use Rattle.table_change.specs.Changes.{entryBelowLimit};
-ghost use Rattle.table_checked.specs.Checked.{Checked};
+ghost use Rattle.table_rules.specs.Checked.{Checked};
 ghost use Rattle.refusal_order.specs.Fields.{localFrom};
 use arrival::FULL;
 use arrival::MOST_STATIONS;

@@ -17,7 +17,7 @@ use Rattle.meaning.specs.Refusals.{Local, refusalOfLocal, issuedBy}
 use Rattle.meaning.specs.Calls as meaning
 use Rattle.meaning.specs.Calls.{outcome, afterArrival}
 use Rattle.words_layout.specs.Layout.{tableOf, rewritten, sizeIn, ownIn, clockAt}
-use Rattle.table_checked.specs.Checked.{Checked}
+use Rattle.table_rules.specs.Checked.{Checked}
 use Rattle.line_hex.specs.Choice.{pick}
 use Rattle.line_hex.specs.Hex.{digitsOf, digitOf, hexLine}
 use Rattle.line_hex.specs.Numbers.{bigEndian}
@@ -32,7 +32,7 @@ use Rattle.line_put.proofs.Whole.{length-hex-line}
 use Rattle.line_read.specs.Types.{refused, operation, headOf}
 use Rattle.line_read.specs.Named.{issueRead}
 use Rattle.line_print.specs.Printed.{printed}
-use Rattle.line_hear.specs.Hearing.{bytesOf}
+use Rattle.line_decode.specs.Hearing.{bytesOf}
 use Rattle.call_question.specs.Telling.{refusalBytes}
 use Rattle.call_question.proofs.Short.{refusal-long}
 use Rattle.call_checked.specs.declared.Issued.{Issued}

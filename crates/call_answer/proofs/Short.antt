@@ -9,13 +9,13 @@ use lib.ListN.{length}
 use Rattle.meaning.specs.Calls as meaning
 use Rattle.words_layout.specs.Layout.{rewritten, tableOf}
 use Rattle.refusal_kind.specs.Asking.{askedFrom}
-use Rattle.table_checked.specs.Checked.{Checked}
+use Rattle.table_rules.specs.Checked.{Checked}
 use Rattle.line_hex.specs.Choice.{pick}
 use Rattle.line_shape.specs.Shapes.{lengthOf}
 use Rattle.line_read.specs.Types.{count, done}
 use Rattle.line_read.specs.Named.{issueRead, openingRead, questionRead}
 use Rattle.line_read.proofs.Lengths.{line-length}
-use Rattle.line_hear.specs.Hearing.{bytesOf}
+use Rattle.line_decode.specs.Hearing.{bytesOf}
 use Rattle.call_question.specs.Telling.{refusalBytes, replyBytes}
 use Rattle.call_question.proofs.Short.{refusal-long, reply-short}
 use Rattle.call_checked.specs.declared.Opened.{Opened}

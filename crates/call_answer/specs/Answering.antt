@@ -11,7 +11,7 @@ use Rattle.line_put.specs.Writing.{lineWritten}
 use Rattle.line_put.specs.declared.Written.{Written}
 use Rattle.line_read.specs.Types.{Line, count, done, issue, lineOf, opening, operation, question, settling}
 use Rattle.line_read.specs.Named.{issueRead, openingRead, questionRead}
-use Rattle.line_hear.specs.Hearing.{bytesOf}
+use Rattle.line_decode.specs.Hearing.{bytesOf}
 use Rattle.call_question.specs.Telling.{refusalBytes, replyBytes}
 use Rattle.call_checked.specs.declared.Opened.{Opened}
 use Rattle.call_checked.specs.declared.Opened.the-variants as opened

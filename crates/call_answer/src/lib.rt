@@ -2,7 +2,7 @@
 ghost use mathlib.Core.Path.{_≡_};
 ghost use Prim.Native.Nat.{_≤_};
 ghost use lib.ListN.{length};
-ghost use Rattle.table_checked.specs.Checked.{Checked};
+ghost use Rattle.table_rules.specs.Checked.{Checked};
 ghost use Rattle.line_put.specs.Writing.{lineWritten};
 ghost use Rattle.call_answer.specs.Answering.{answerOn, frameRoom, issueAnswer, openedBytes, questionAnswer, receivedBytes, secondOpening, settledBytes, toldAfter};
 use call_checked::Issued;
@@ -68,7 +68,7 @@ fn answer_question(space: &[u32], line: &[u8], out: &mut [u8]) -> Written
     requires { ⌜ Checked (now space) ⌝ }
     ensures { λ w. ⌜ (w, now (out .exit)) ≡ lineWritten (now (out .entry)) (questionAnswer (now (line .entry)) (now (space .entry))) ⌝ }
 {
-    let asked = line_hear::question(line);
+    let asked = line_decode::question(line);
     if asked.ok {
         return call_question::tell(space, asked.object, asked.question, asked.value, out);
     }
@@ -79,7 +79,7 @@ fn answer_question(space: &[u32], line: &[u8], out: &mut [u8]) -> Written
 fn answer_opening(line: &[u8], out: &mut [u8]) -> Written
     ensures { λ w. ⌜ (w, now (out .exit)) ≡ lineWritten (now (out .entry)) (secondOpening (now (line .entry))) ⌝ }
 {
-    if line_hear::is_opening(line) {
+    if line_decode::is_opening(line) {
         return line_print::write_refusal(out, SECOND_OPENING);
     }
     line_print::write_refusal(out, call_checked::MISSHAPEN)

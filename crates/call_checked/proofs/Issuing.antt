@@ -15,7 +15,7 @@ use Rattle.meaning.specs.Calls.{outcome, afterArrival}
 use Rattle.words_layout.specs.Words.{padded}
 use Rattle.words_layout.specs.Layout.{tableOf, rewritten, sizeIn, ownIn}
 use Rattle.table_change.specs.Changes.{entryBelowLimit}
-use Rattle.table_checked.specs.Checked.{Checked}
+use Rattle.table_rules.specs.Checked.{Checked}
 use Rattle.refusal_order.specs.Fields.{localFrom}
 use Rattle.arrival_local.proofs.Issuing.{rises-accepted, raised-long, vector-is}
 use Rattle.line_hex.specs.Choice.{pick}
@@ -27,7 +27,7 @@ use Rattle.line_read.specs.declared.Issue.{Issue}
 use Rattle.line_read.specs.Types.{lineOf, operation}
 use Rattle.line_read.specs.Named.{issueRead}
 use Rattle.line_print.specs.Printed.{printed}
-use Rattle.line_hear.specs.Hearing.{bytesOf}
+use Rattle.line_decode.specs.Hearing.{bytesOf}
 use Rattle.call_checked.specs.declared.Issued.{Issued}
 use Rattle.call_checked.specs.declared.Issued.the-variants as issued
 use Rattle.call_checked.specs.Spoken.{localOf, frameBytes, framedAs, issuedAs, issuedOn}

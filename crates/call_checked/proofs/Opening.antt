@@ -17,8 +17,8 @@ use Rattle.table_ranges.specs.Headers.{headerOf}
 use Rattle.line_read.specs.declared.Opening.{Opening}
 use Rattle.line_read.specs.Named.{openingRead}
 use Rattle.line_read.proofs.Longest.{opening-size}
-use Rattle.line_hear.specs.Hearing.{bytesOf, heardIn}
-use Rattle.line_hear.proofs.Hearing.{heard-front, heard-room}
+use Rattle.line_decode.specs.Hearing.{bytesOf, heardIn}
+use Rattle.line_decode.proofs.Hearing.{heard-front, heard-room}
 use Rattle.call_checked.specs.declared.Opened.{Opened}
 use Rattle.call_checked.specs.declared.Opened.the-variants as called
 use Rattle.call_checked.specs.Spoken.{openedAs, headerRead, openedBy}

@@ -4,7 +4,7 @@ ghost use Prim.Native.Nat.{_≤_};
 ghost use lib.ListN.{length, take};
 ghost use Rattle.meaning.specs.Calls.{issue, openTable, receive};
 ghost use Rattle.words_layout.specs.Layout.{spaceFor, tableOf};
-ghost use Rattle.table_checked.specs.Checked.{Checked};
+ghost use Rattle.table_rules.specs.Checked.{Checked};
 ghost use Rattle.table_ranges.specs.Headers.{headerOf};
 ghost use Rattle.call_checked.specs.Spoken.{frameOf, issuedAs, issuedOn, localOf, openedAs, openedBy, receivedAs, receivedOn, repliedOn, settledOn};
 use question::Reply;
@@ -68,7 +68,7 @@ pub fn open_line(space: &mut [u32], line: &[u8]) -> Opened
     ensures { λ r. ⌜ (r, now (space .exit)) ≡ openedBy (now (line .entry)) (now (space .entry)) ⌝ }
 {
     let mut bytes = [0u8; line_read::LONGEST];
-    let n = line_hear::hear(line, &mut bytes);
+    let n = line_decode::hear(line, &mut bytes);
     let asked = line_read::read_opening(&bytes[0..n]);
     if asked.ok {
         return open_with(space, asked, &bytes[line_read::KINDS_PLACE..n]);
@@ -104,7 +104,7 @@ pub fn receive_line(space: &mut [u32], line: &[u8]) -> Received
     requires { ⌜ Checked (now space) ⌝ }
     ensures { λ r. ⌜ (r, now (space .exit)) ≡ receivedOn (now (line .entry)) (now (space .entry)) ⌝ }
 {
-    let f = line_hear::operation(line);
+    let f = line_decode::operation(line);
     if f.ok {
         return receive_read(space, f);
     }
@@ -137,7 +137,7 @@ pub fn issue_line(space: &mut [u32], line: &[u8], out: &mut [u8]) -> Issued
     requires { ⌜ Checked (now space) ⌝ }
     ensures { λ r. ⌜ (r, (now (space .exit), now (out .exit))) ≡ issuedOn (now (line .entry)) (now (space .entry)) (now (out .entry)) ⌝ }
 {
-    let f = line_hear::issue(line);
+    let f = line_decode::issue(line);
     if f.ok {
         return issue_read(space, f, out);
     }
@@ -149,7 +149,7 @@ pub fn settle_line(space: &mut [u32], line: &[u8]) -> Settled
     requires { ⌜ Checked (now space) ⌝ }
     ensures { λ r. ⌜ (r, now (space .exit)) ≡ settledOn (now (line .entry)) (now (space .entry)) ⌝ }
 {
-    let asked = line_hear::settling(line);
+    let asked = line_decode::settling(line);
     if asked.ok {
         return Settled::Steps(settling::settle_table(space, RowCount(asked.limit)));
     }
@@ -161,7 +161,7 @@ pub fn ask_line(space: &[u32], line: &[u8], out: &mut [u32]) -> Reply
     requires { ⌜ Checked (now space) ⌝ }
     ensures { λ r. ⌜ (r, now (out .exit)) ≡ repliedOn (now (line .entry)) (now (space .entry)) (now (out .entry)) ⌝ }
 {
-    let asked = line_hear::question(line);
+    let asked = line_decode::question(line);
     if asked.ok {
         return question::ask_table(space, asked.object, asked.question, asked.value, out);
     }

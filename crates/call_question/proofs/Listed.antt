@@ -8,7 +8,7 @@ use Rattle.meaning.specs.Rows.{Row, countByRows}
 use Rattle.meaning.specs.Questions.{byRows}
 use Rattle.meaning.proofs.Tests.{cases}
 use Rattle.words_layout.specs.Layout.{tableOf, rowsAt, rowWidth, sizeIn, countIn}
-use Rattle.table_checked.specs.Checked.{Checked}
+use Rattle.table_rules.specs.Checked.{Checked}
 use Rattle.question_scan.specs.Showing.{shows, shown}
 use Rattle.question_scan.proofs.Listing.{rows-number}
 use Rattle.question_list.specs.Walking.{valuesBehind}

@@ -13,7 +13,7 @@ use Rattle.meaning.specs.Refusals.{_when_, firstOf, declared, wellAsked, listTo
 use Rattle.meaning.specs.Calls as meaning
 use Rattle.meaning.specs.Calls.{ask, askOf, replyOf}
 use Rattle.words_layout.specs.Layout.{tableOf, totalWords}
-use Rattle.table_checked.specs.Checked.{Checked}
+use Rattle.table_rules.specs.Checked.{Checked}
 use Rattle.line_shape.specs.Shapes.{lengthOf}
 use Rattle.line_read.specs.Types.{count, flag, refused, sum}
 use Rattle.line_read.proofs.Lengths.{line-length}

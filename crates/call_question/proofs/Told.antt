@@ -18,7 +18,7 @@ use Rattle.meaning.proofs.Tests.{cases}
 use Rattle.words_layout.specs.Layout.{tableOf, totalWords}
 use Rattle.words_tags.specs.declared.RowCount.{RowCount}
 use Rattle.refusal_kind.specs.Asking.{askedFrom}
-use Rattle.table_checked.specs.Checked.{Checked}
+use Rattle.table_rules.specs.Checked.{Checked}
 use Rattle.question.specs.declared.Reply as code
 use Rattle.question.specs.declared.Reply.the-variants as says
 use Rattle.question.specs.Replies.{replied}

@@ -7,7 +7,7 @@ use lib.ListN.{length}
 use Rattle.meaning.specs.Rows.{countByRows}
 use Rattle.meaning.specs.Questions.{byRows}
 use Rattle.words_layout.specs.Layout.{tableOf}
-use Rattle.table_checked.specs.Checked.{Checked}
+use Rattle.table_rules.specs.Checked.{Checked}
 use Rattle.question_list.specs.Walking.{valuesBehind, nextValue}
 use Rattle.question_list.specs.declared.Found.{Found}
 use Rattle.question_list.proofs.Lists.{next-left, all-left}

@@ -8,7 +8,7 @@ ghost use Rattle.meaning.specs.Questions.{byRows};
 ghost use Rattle.meaning.specs.Calls.{ask};
 ghost use Rattle.words_layout.specs.Layout.{tableOf};
 ghost use Rattle.refusal_kind.specs.Asking.{askedFrom};
-ghost use Rattle.table_checked.specs.Checked.{Checked};
+ghost use Rattle.table_rules.specs.Checked.{Checked};
 ghost use Rattle.line_hex.specs.Putting.{putAt};
 ghost use Rattle.line_put.specs.Writing.{lineWritten, writtenEach};
 ghost use Rattle.call_question.specs.Telling.{listBytes, replyBytes};

@@ -10,7 +10,7 @@ use lib.ListN.{drop, length}
 use Rattle.meaning.specs.Table.{isTable}
 use Rattle.meaning.proofs.Tests.{and-right, cases}
 use Rattle.words_layout.specs.Layout.{holdsTable, tableOf}
-use Rattle.table_checked.proofs.Checking.{checked}
+use Rattle.table_rules.proofs.Checking.{checked}
 use Rattle.line_hex.specs.Choice.{pick}
 use Rattle.line_hex.specs.Hex.{hexLine, isDigit}
 use Rattle.line_hex.specs.Decoding.{byteOf, isLine, pairOf, pairs, typeOfPair}
@@ -36,7 +36,7 @@ use Rattle.call_checked.specs.Spoken.{openedBy}
 use Rattle.call_answer.specs.Answering.{answerOn, openedBytes, toldAfter}
 use Rattle.call_answer.proofs.Choosing.{told}
 use Rattle.call_answer.proofs.Short.{answer-short, opened-short, refusal-short}
-use Rattle.line_hear.specs.Hearing.{byteOfType, bytesOf, typeOf}
+use Rattle.line_decode.specs.Hearing.{byteOfType, bytesOf, typeOf}
 use Rattle.calls.specs.declared.Answered.{Answered}
 use Rattle.calls.specs.declared.Answered.the-variants as answered
 use Rattle.calls.specs.Answers.{answeredBy, answerOf, linesFor, printedAt, spaceAfter}

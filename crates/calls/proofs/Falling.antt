@@ -12,12 +12,12 @@ use Rattle.meaning.specs.Calls.{withRows, rowsSettled, steps}
 use Rattle.meaning.proofs.Settling.{steps-are-fall}
 use Rattle.meaning.proofs.TableRules.{kept-by-settling}
 use Rattle.words_layout.specs.Layout.{holdsTable, tableOf}
-use Rattle.table_checked.specs.Checked.{Checked}
-use Rattle.table_checked.proofs.Checking.{checked}
+use Rattle.table_rules.specs.Checked.{Checked}
+use Rattle.table_rules.proofs.Checking.{checked}
 use Rattle.arrival.proofs.Kept.{table-back}
 use Rattle.line_hex.specs.Choice.{pick}
 use Rattle.line_read.specs.Named.{settlingRead}
-use Rattle.line_hear.specs.Hearing.{bytesOf}
+use Rattle.line_decode.specs.Hearing.{bytesOf}
 use Rattle.call_checked.specs.declared.Settled.{Settled}
 use Rattle.call_checked.specs.declared.Settled.the-variants as settled
 use Rattle.call_checked.specs.Spoken.{settledAs, settledOn}

@@ -4,8 +4,8 @@ use mathlib.Core.Bool.{Bool, true, false}
 use mathlib.Core.List.{List}
 use Prim.Native.Nat.{ℕ}
 use Rattle.words_layout.specs.Layout.{holdsTable}
-use Rattle.table_checked.specs.Checked.{Checked}
-use Rattle.table_checked.proofs.Checking.{checked}
+use Rattle.table_rules.specs.Checked.{Checked}
+use Rattle.table_rules.proofs.Checking.{checked}
 use Rattle.question.specs.declared.Reply.{Reply}
 use Rattle.question.specs.declared.Reply.the-variants as reply
 use Rattle.call_checked.specs.declared.Issued.{Issued}

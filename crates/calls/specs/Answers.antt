@@ -9,7 +9,7 @@ use Rattle.line_hex.specs.Choice.{pick}
 use Rattle.line_hex.specs.Hex.{hexLine}
 use Rattle.line_read.specs.Types.{opening}
 use Rattle.line_read.specs.Named.{printingRead}
-use Rattle.line_hear.specs.Hearing.{bytesOf, typeOf}
+use Rattle.line_decode.specs.Hearing.{bytesOf, typeOf}
 use Rattle.form_write.specs.Forms.{savedForm}
 use Rattle.call_question.specs.Telling.{refusalBytes}
 use Rattle.call_checked.specs.Spoken.{openedBy}

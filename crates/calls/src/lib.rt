@@ -4,7 +4,7 @@ ghost use Rattle.call_checked.specs.Spoken.{openedBy};
 ghost use mathlib.Core.List.{[], _∷_};
 ghost use Prim.Native.Nat.{_≤_};
 ghost use lib.ListN.{length};
-ghost use Rattle.line_hear.specs.Hearing.{typeOf};
+ghost use Rattle.line_decode.specs.Hearing.{typeOf};
 ghost use Rattle.form_save.specs.Saving.{savedBy};
 ghost use Rattle.call_question.specs.Telling.{refusalBytes};
 ghost use Rattle.call_answer.specs.Answering.{frameRoom, toldAfter};
@@ -100,7 +100,7 @@ fn answer_first(space: &mut [u32], line: &[u8], out: &mut [u8]) -> Written
     requires { ⌜ frameRoom ≤ length (now out) ⌝ }
     ensures { λ w. ⌜ (w, (now (space .exit), now (out .exit))) ≡ toldAfter (now (out .entry)) (answerOf (now (line .entry)) (now (space .entry))) ⌝ }
 {
-    let kind = line_hear::type_of(line);
+    let kind = line_decode::type_of(line);
     if table_rules::is_table(space) {
         return call_answer::answer_line(space, line, kind, out);
     }
@@ -147,7 +147,7 @@ fn answer_printing(space: &[u32], line: &[u8], k: usize, out: &mut [u8]) -> Answ
 pub fn answer(space: &mut [u32], line: &[u8], k: usize, out: &mut [u8; LONGEST_ANSWER]) -> Answered
     ensures { λ r. ⌜ (r, (now (space .exit), now (out .exit))) ≡ answeredBy (now (line .entry)) k (now (space .entry)) (now (out .entry)) ⌝ }
 {
-    if line_hear::type_of(line) == line_read::PRINTING {
+    if line_decode::type_of(line) == line_read::PRINTING {
         return answer_printing(space, line, k, out);
     }
     if k == 0 {

@@ -4,7 +4,7 @@ use mathlib.Core.Bool.{true}
 use mathlib.Core.List.{List, [], _∷_}
 use Prim.Native.Nat.{ℕ}
 use Rattle.words_layout.specs.Layout.{holdsTable}
-use Rattle.line_hear.specs.Hearing.{bytesOf, typeOf}
+use Rattle.line_decode.specs.Hearing.{bytesOf, typeOf}
 use Rattle.call_checked.specs.Spoken.{openedBy}
 use Rattle.form_take.specs.declared.Loaded.{Loaded}
 use Rattle.form_take.specs.declared.Loaded.the-variants as loaded

@@ -22,7 +22,7 @@ use Rattle.words_layout.specs.Words.{padded, pieces}
 use Rattle.words_layout.specs.Layout.{tableOf, totalWords, rowOf, rowWords, rowsAt, rowWidth, rowsIn, sizeIn, objectsIn, countIn}
 use Rattle.words_layout.proofs.Pieces.{Each, length-pieces}
 use Rattle.words_layout.proofs.Whole.{each-spelt}
-use Rattle.table_checked.specs.Checked.{Checked}
+use Rattle.table_rules.specs.Checked.{Checked}
 use Rattle.line_read.specs.Types.{opening, clock, lastVector, total, row, closing}
 use Rattle.line_put.specs.Writing.{lineWritten}
 use Rattle.line_put.specs.declared.Written.{Written}

@@ -7,7 +7,7 @@ ghost use lib.Dec.{eqb};
 ghost use lib.IntN.{pos};
 ghost use lib.ListN.{getD, length};
 ghost use Rattle.words_layout.specs.Layout.{countIn, objectsIn, rowsAt, rowWidth, sizeIn, tableOf};
-ghost use Rattle.table_checked.specs.Checked.{Checked};
+ghost use Rattle.table_rules.specs.Checked.{Checked};
 ghost use Rattle.line_put.specs.Writing.{lineWritten};
 ghost use Rattle.form_lines.specs.FormLines.{clockLine, closingLine, lastLine, openingLine, rowLineAt, totalLine};
 use words_layout::CAPACITY_AT;

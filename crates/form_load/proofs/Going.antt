@@ -22,11 +22,11 @@ use Rattle.table_rules.specs.TableTests.{clockIn, kindsIn, sizesKept}
 use Rattle.table_rules.proofs.Heading.{Sizes, sizes-in, sizes-out}
 use Rattle.table_rules_clock.specs.ClockTests.{lastKept, totalKept}
 use Rattle.line_hex.specs.Choice.{pick}
-use Rattle.line_read_saved.specs.declared.Row.{Row}
-use Rattle.line_read_saved.specs.Named.{clockRead, closingRead, lastRead, rowRead, totalRead}
-use Rattle.line_read_saved.proofs.Vectors.{clock-vector, last-vector, row-vector}
+use Rattle.line_read.specs.declared.Row.{Row}
+use Rattle.line_read.specs.SavedNamed.{clockRead, closingRead, lastRead, rowRead, totalRead}
+use Rattle.line_read.proofs.Vectors.{clock-vector, last-vector, row-vector}
 use Rattle.line_read.specs.Named.{openingRead}
-use Rattle.line_hear.specs.Hearing.{bytesOf, typeOf}
+use Rattle.line_decode.specs.Hearing.{bytesOf, typeOf}
 use Rattle.call_checked.specs.declared.Opened.{Opened}
 use Rattle.call_checked.specs.declared.Opened.the-variants as opening
 use Rattle.call_checked.specs.Spoken.{headerRead, openedAs, openedBy}

@@ -14,8 +14,8 @@ use Rattle.words_layout.specs.Layout.{holdsTable, spaceFor, wordsOf}
 use Rattle.line_hex.specs.Choice.{pick}
 use Rattle.words_tags.specs.declared.Station.{Station}
 use Rattle.line_read.specs.Named.{openingRead}
-use Rattle.line_hear.specs.Hearing.{bytesOf, heardIn, typeOf}
-use Rattle.line_hear.proofs.Hearing.{heard-front}
+use Rattle.line_decode.specs.Hearing.{bytesOf, heardIn, typeOf}
+use Rattle.line_decode.proofs.Hearing.{heard-front}
 use Rattle.call_checked.specs.declared.Opened.{Opened}
 use Rattle.call_checked.specs.declared.Opened.the-variants as opened
 use Rattle.call_checked.specs.Spoken.{headerRead, openedAs, openedBy}

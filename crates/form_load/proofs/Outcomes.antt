@@ -14,9 +14,9 @@ use Rattle.table_rules.proofs.Holding.{table-headed}
 use Rattle.table_rules_clock.specs.ClockTests.{lastKept, totalKept}
 use Rattle.line_hex.specs.Choice.{pick}
 use Rattle.line_read.specs.Named.{openingRead}
-use Rattle.line_read_saved.specs.declared.Row.{Row}
-use Rattle.line_read_saved.specs.Named.{clockRead, closingRead, lastRead, rowRead, totalRead}
-use Rattle.line_hear.specs.Hearing.{bytesOf, typeOf}
+use Rattle.line_read.specs.declared.Row.{Row}
+use Rattle.line_read.specs.SavedNamed.{clockRead, closingRead, lastRead, rowRead, totalRead}
+use Rattle.line_decode.specs.Hearing.{bytesOf, typeOf}
 use Rattle.call_checked.specs.declared.Opened.{Opened}
 use Rattle.call_checked.specs.declared.Opened.the-variants as opened
 use Rattle.call_checked.specs.Spoken.{headerRead, openedAs, openedBy}

@@ -10,7 +10,7 @@ use Rattle.words_layout.specs.Layout.{capacityIn, countIn, holdsTable, objectsI
 use Rattle.table_rules.specs.TableTests.{kindsIn, sizesKept}
 use Rattle.line_hex.specs.Choice.{pick}
 use Rattle.line_read.specs.Types.{clock, closing, opening}
-use Rattle.line_hear.specs.Hearing.{bytesOf, typeOf}
+use Rattle.line_decode.specs.Hearing.{bytesOf, typeOf}
 use Rattle.form_write.specs.declared.Sought.{Sought}
 use Rattle.form_write.specs.declared.Sought.the-variants as sought
 use Rattle.form_write.specs.Seeking.{counterAt, otherAt}

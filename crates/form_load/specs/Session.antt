@@ -16,9 +16,9 @@ use Rattle.line_shape.specs.Reading.{entries, fieldsRead, hasShape, padded, sta
 use Rattle.line_shape.specs.Shapes.{lengthOf, read}
 use Rattle.line_read.specs.Named.{openingRead}
 use Rattle.line_read.specs.Types.{isOf, lineRead}
-use Rattle.line_read_saved.specs.Named.{clockRead, closingRead, lastRead, rowRead, totalRead}
-use Rattle.line_hear.specs.Hearing.{bytesOf, typeOf}
-use Rattle.line_hear.specs.Text.{characters, lineSaying}
+use Rattle.line_read.specs.SavedNamed.{clockRead, closingRead, lastRead, rowRead, totalRead}
+use Rattle.line_decode.specs.Hearing.{bytesOf, typeOf}
+use Rattle.line_decode.specs.Text.{characters, lineSaying}
 use Rattle.call_checked.specs.Spoken.{headerRead, openedAs, openedBy}
 use Rattle.form_write.specs.Seeking.{counterAt, otherAt}
 use Rattle.table_rules.specs.TableTests.{sizesKept}

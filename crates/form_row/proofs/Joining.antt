@@ -15,7 +15,7 @@ use Rattle.table_rules.specs.TableTests.{clockIn, kindsIn}
 use Rattle.table_rules_rows.specs.RowTests.{follows, rowKept}
 use Rattle.table_rules_rows.proofs.Chaining.{by-keys}
 use Rattle.line_hex.specs.Choice.{pick}
-use Rattle.line_read_saved.specs.declared.Row.{Row}
+use Rattle.line_read.specs.declared.Row.{Row}
 use Rattle.form_row.specs.LoadHead.{LoadHead}
 use Rattle.form_row.specs.Joining.{joined, joins, lastRow, rowSaid}
 

@@ -9,7 +9,7 @@ use Rattle.words_layout.specs.Layout.{capacityIn, countIn, rowWidth, sizeIn, sp
 use Rattle.table_rules.specs.TableTests.{clockIn, kindsIn}
 use Rattle.table_rules_rows.specs.RowTests.{follows, rowKept}
 use Rattle.line_hex.specs.Choice.{pick}
-use Rattle.line_read_saved.specs.declared.Row.{Row}
+use Rattle.line_read.specs.declared.Row.{Row}
 
 -- The words of the row that a `53` line says; "01 settled or 00".
 unfoldable pub rowSaid : ℕ → Row → List ℕ

@@ -13,7 +13,7 @@ use words_layout::KEY;
 use words_layout::KINDS_AT;
 use words_layout::OBJECTS_AT;
 use words_layout::SIZE_AT;
-use line_read_saved::Row;
+use line_read::Row;
 use words_tags::RowCount;
 use words_tags::Station;
 

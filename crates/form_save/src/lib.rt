@@ -1,7 +1,7 @@
 // The `60` line to a checked table: what is refused, and the line of its saved form at a place.
 ghost use mathlib.Core.Path.{_≡_};
 ghost use Rattle.words_layout.specs.Layout.{tableOf};
-ghost use Rattle.table_checked.specs.Checked.{Checked};
+ghost use Rattle.table_rules.specs.Checked.{Checked};
 ghost use Rattle.form_write.specs.Forms.{lineAt, savedForm};
 ghost use Rattle.form_save.specs.Saving.{savedAs, savedOn};
 use form_write::Formed;
@@ -36,7 +36,7 @@ pub fn save_checked(space: &[u32], line: &[u8], k: usize, out: &mut [u8]) -> Sav
     requires { ⌜ Checked (now space) ⌝ }
     ensures { λ r. ⌜ (r, now (out .exit)) ≡ savedOn (now (line .entry)) (now (space .entry)) k (now (out .entry)) ⌝ }
 {
-    if line_hear::printing(line) {
+    if line_decode::printing(line) {
         return save_place(space, k, out);
     }
     Saved::Refused(MISSHAPEN)

@@ -10,9 +10,9 @@ use lib.ListN.{drop, getD, length, length-replicate, length-set, set, take}
 use Rattle.meaning.proofs.Tests.{and-both, and-fails}
 use Rattle.words_layout.specs.Layout.{countIn, holdsTable, sizeIn}
 use Rattle.line_hex.specs.Choice.{pick}
-use Rattle.line_read_saved.specs.declared.Row.{Row}
-use Rattle.line_read_saved.specs.declared.Closing.{Closing}
-use Rattle.line_read_saved.specs.Named.{closingRead, rowRead}
+use Rattle.line_read.specs.declared.Row.{Row}
+use Rattle.line_read.specs.declared.Closing.{Closing}
+use Rattle.line_read.specs.SavedNamed.{closingRead, rowRead}
 use Rattle.form_row.specs.LoadHead.{LoadHead}
 use Rattle.form_row.specs.Joining.{joined, joins, rowSaid}
 use Rattle.form_row.proofs.Joining.{row-part}

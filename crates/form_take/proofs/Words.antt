@@ -17,11 +17,11 @@ use Rattle.words_layout.specs.Layout.{objectsIn, sizeIn}
 use Rattle.table_rules.specs.TableTests.{clockIn, kindsIn}
 use Rattle.table_rules_clock.specs.ClockTests.{lastKept, totalKept}
 use Rattle.line_hex.specs.Choice.{pick}
-use Rattle.line_read_saved.specs.declared.Clock.{Clock}
-use Rattle.line_read_saved.specs.declared.LastVector.{LastVector}
-use Rattle.line_read_saved.specs.declared.Total.{Total}
-use Rattle.line_read_saved.specs.Named.{clockRead, lastRead, totalRead}
-use Rattle.line_read_saved.proofs.Vectors.{clock-vector, last-vector}
+use Rattle.line_read.specs.declared.Clock.{Clock}
+use Rattle.line_read.specs.declared.LastVector.{LastVector}
+use Rattle.line_read.specs.declared.Total.{Total}
+use Rattle.line_read.specs.SavedNamed.{clockRead, lastRead, totalRead}
+use Rattle.line_read.proofs.Vectors.{clock-vector, last-vector}
 use Rattle.form_row.specs.LoadHead.{LoadHead}
 use Rattle.form_row.proofs.Joining.{no-more, part-of, second-fails}
 use Rattle.form_take.specs.declared.Loaded.{Loaded}

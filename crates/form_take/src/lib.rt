@@ -16,7 +16,7 @@ use words_layout::OWN_AT;
 use words_layout::SIZE_AT;
 use words_layout::TOTAL_WORDS;
 use words_layout::TOTALS_AT;
-use line_read_saved::Row;
+use line_read::Row;
 use words_tags::Station;
 
 // "a saved line that is misplaced, misshapen or breaks a table rule"
@@ -55,7 +55,7 @@ pub fn take_clock(space: &mut [u32], bytes: &[u8]) -> Loaded
     ensures { λ r. ⌜ (r, now (space .exit)) ≡ clockTaken (now (bytes .entry)) (now (space .entry)) ⌝ }
 {
     let size = words_tags::wide(space[SIZE_AT]);
-    let f = line_read_saved::read_clock(bytes, size);
+    let f = line_read::read_clock(bytes, size);
     if f.ok {
         let vector = f.vector;
         return take_words(space, CLOCK_AT, &vector[0..size]);
@@ -69,7 +69,7 @@ pub fn take_last(space: &mut [u32], bytes: &[u8], station: Station) -> Loaded
     ensures { λ r. ⌜ (r, now (space .exit)) ≡ lastTaken (station .0) (now (bytes .entry)) (now (space .entry)) ⌝ }
 {
     let size = words_tags::wide(space[SIZE_AT]);
-    let f = line_read_saved::read_last(bytes, size);
+    let f = line_read::read_last(bytes, size);
     if !f.ok {
         return spoil(space);
     }
@@ -91,7 +91,7 @@ pub fn take_total(space: &mut [u32], bytes: &[u8], object: usize) -> Loaded
     requires { ⌜ LoadHead (now space) × (progressIn (now space) ≤ mostProgress) × (object < objectsIn (now space)) ⌝ }
     ensures { λ r. ⌜ (r, now (space .exit)) ≡ totalTaken object (now (bytes .entry)) (now (space .entry)) ⌝ }
 {
-    let f = line_read_saved::read_total(bytes);
+    let f = line_read::read_total(bytes);
     if !f.ok {
         return spoil(space);
     }
@@ -142,7 +142,7 @@ fn close(space: &mut [u32], bytes: &[u8]) -> Loaded
     requires { ⌜ LoadHead (now space) ⌝ }
     ensures { λ r. ⌜ (r, now (space .exit)) ≡ closed (now (bytes .entry)) (now (space .entry)) ⌝ }
 {
-    let f = line_read_saved::read_closing(bytes);
+    let f = line_read::read_closing(bytes);
     if !f.ok {
         return spoil(space);
     }
@@ -157,7 +157,7 @@ pub fn take_row_or_close(space: &mut [u32], bytes: &[u8]) -> Loaded
     requires { ⌜ LoadHead (now space) ⌝ }
     ensures { λ r. ⌜ (r, now (space .exit)) ≡ rowOrClosing (now (bytes .entry)) (now (space .entry)) ⌝ }
 {
-    let f = line_read_saved::read_row(bytes, words_tags::wide(space[SIZE_AT]));
+    let f = line_read::read_row(bytes, words_tags::wide(space[SIZE_AT]));
     if f.ok {
         return take_row(space, f);
     }

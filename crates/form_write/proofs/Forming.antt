@@ -15,7 +15,7 @@ use Rattle.meaning.specs.Table.{kindIn}
 use Rattle.words_layout.specs.Words.{pieces}
 use Rattle.words_layout.specs.Layout.{tableOf, totalOfWords, rowOf, rowsAt, rowWidth, rowsIn, sizeIn, ownIn, objectsIn, countIn}
 use Rattle.words_layout.proofs.Pieces.{length-pieces}
-use Rattle.table_checked.specs.Checked.{Checked}
+use Rattle.table_rules.specs.Checked.{Checked}
 use Rattle.line_put.specs.Writing.{lineWritten}
 use Rattle.line_put.specs.declared.Written.{Written}
 use Rattle.line_put.specs.declared.Written.the-variants as written

@@ -25,8 +25,8 @@ use Rattle.line_shape.specs.Reading.{padded}
 use Rattle.line_shape.specs.Shapes.{Fitting}
 use Rattle.line_read.specs.Named.{openingRead}
 use Rattle.line_read.proofs.Taken.{opening-reads-back, opening-kinds-read-back}
-use Rattle.line_read_saved.specs.Named.{clockRead, lastRead, totalRead, rowRead, closingRead}
-use Rattle.line_read_saved.proofs.Named.{clock-reads-back, last-reads-back, total-reads-back, row-reads-back, closing-reads-back}
+use Rattle.line_read.specs.SavedNamed.{clockRead, lastRead, totalRead, rowRead, closingRead}
+use Rattle.line_read.proofs.SavedNamed.{clock-reads-back, last-reads-back, total-reads-back, row-reads-back, closing-reads-back}
 use Rattle.form_lines.specs.FormLines.{openingLine, clockLine, lastLine, totalLine, rowLine, closingLine}
 use Rattle.form_lines.proofs.Parts.{row-small}
 

@@ -4,7 +4,7 @@ ghost use mathlib.Core.List.{_++_};
 ghost use Prim.Native.Nat.{_+_, _<_};
 ghost use Rattle.words_layout.specs.Words.{wordLimit};
 ghost use Rattle.words_layout.specs.Layout.{tableOf};
-ghost use Rattle.table_checked.specs.Checked.{Checked};
+ghost use Rattle.table_rules.specs.Checked.{Checked};
 ghost use Rattle.form_write.specs.Forms.{formedOf, lineAt, rowLines, savedForm, totalLines};
 ghost use Rattle.form_write.specs.Seeking.{counterAt, otherAt};
 use words_layout::COUNT_AT;

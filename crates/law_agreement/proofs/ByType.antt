@@ -16,7 +16,7 @@ use Rattle.meaning.specs.Calls as meaning
 use Rattle.meaning.specs.Calls.{afterArrival, outcome}
 use Rattle.words_layout.specs.Layout.{holdsTable, rewritten, spaceFor, tableOf}
 use Rattle.refusal_kind.specs.Asking.{askedFrom}
-use Rattle.table_checked.proofs.Checking.{checked}
+use Rattle.table_rules.proofs.Checking.{checked}
 use Rattle.question.specs.declared.Reply.{Reply}
 use Rattle.question.specs.declared.Reply.the-variants as reply
 use Rattle.question.specs.Replies.{replied}
@@ -27,7 +27,7 @@ use Rattle.line_shape.specs.Shapes.{written}
 use Rattle.line_put.specs.Writing.{lineBytes, lineWritten}
 use Rattle.line_read.specs.Types.{issue, opening, operation, printing, question, settling}
 use Rattle.line_read.specs.Named.{issueRead, openingRead, operationRead, printingRead, questionRead, settlingRead}
-use Rattle.line_hear.specs.Hearing.{bytesOf}
+use Rattle.line_decode.specs.Hearing.{bytesOf}
 use Rattle.call_question.specs.Telling.{listBytes, refusalBytes, replyBytes}
 use Rattle.call_checked.specs.declared.Issued.the-variants as issued
 use Rattle.call_checked.specs.declared.Opened.the-variants as opened
@@ -35,7 +35,7 @@ use Rattle.call_checked.specs.declared.Received.the-variants as received
 use Rattle.call_checked.specs.declared.Settled.the-variants as settled
 use Rattle.call_checked.specs.Spoken.{frameBytes, frameOf, framedAs, headerRead, issuedAs, issuedOn, localOf, openedAs, openedBy, receivedAs, receivedOn, repliedOn, settledAs, settledOn}
 use Rattle.call_answer.specs.Answering.{answerOn, changing, issueAnswer, issuedBytes, openedBytes, questionAnswer, receivedBytes, secondOpening, settledBytes}
-use Rattle.line_hear.specs.Hearing.{typeOf}
+use Rattle.line_decode.specs.Hearing.{typeOf}
 use Rattle.form_write.specs.Forms.{savedForm}
 use Rattle.form_save.specs.declared.Saved.{Saved}
 use Rattle.form_save.specs.declared.Saved.the-variants as saved

@@ -26,14 +26,14 @@ use Rattle.words_layout.proofs.Whole.{each-spelt}
 use Rattle.refusal_kind.specs.Asking.{askedFrom}
 use Rattle.question.specs.declared.Reply.the-variants as reply
 use Rattle.question.specs.Replies.{replied}
-use Rattle.table_checked.specs.Checked.{Checked}
-use Rattle.table_checked.proofs.Checking.{checked}
+use Rattle.table_rules.specs.Checked.{Checked}
+use Rattle.table_rules.proofs.Checking.{checked}
 use Rattle.arrival.proofs.Kept.{table-back, table-held, laid-back, laid-held}
 use Rattle.line_hex.specs.Choice.{pick}
 use Rattle.line_hex.specs.Hex.{hexLine}
 use Rattle.line_put.specs.Writing.{lineWritten}
 use Rattle.line_read.specs.Named.{issueRead, openingRead, operationRead, questionRead, settlingRead}
-use Rattle.line_hear.specs.Hearing.{bytesOf}
+use Rattle.line_decode.specs.Hearing.{bytesOf}
 use Rattle.call_checked.specs.declared.Opened.{Opened}
 use Rattle.call_checked.specs.declared.Opened.the-variants as called
 use Rattle.call_checked.specs.declared.Received.the-variants as received

@@ -22,14 +22,14 @@ use Rattle.refusal_kind.specs.Asking.{askedFrom}
 use Rattle.question.specs.declared.Reply.{Reply}
 use Rattle.question.specs.declared.Reply.the-variants as reply
 use Rattle.question.specs.Replies.{numberOf, replied}
-use Rattle.table_checked.specs.Checked.{Checked}
-use Rattle.table_checked.proofs.Checking.{checked}
+use Rattle.table_rules.specs.Checked.{Checked}
+use Rattle.table_rules.proofs.Checking.{checked}
 use Rattle.line_hex.specs.Choice.{pick}
 use Rattle.line_hex.specs.Hex.{hexLine}
 use Rattle.line_put.specs.Writing.{lineWritten}
 use Rattle.line_read.specs.Types.{operation}
 use Rattle.line_read.specs.Named.{stationsOf, issueRead, openingRead, operationRead, printingRead, questionRead, settlingRead}
-use Rattle.line_hear.specs.Hearing.{bytesOf}
+use Rattle.line_decode.specs.Hearing.{bytesOf}
 use Rattle.form_write.specs.Forms.{lineAt, savedForm}
 use Rattle.form_write.proofs.Lines.{line-none, line-there, line-too-short}
 use Rattle.form_save.specs.declared.Saved.{Saved}

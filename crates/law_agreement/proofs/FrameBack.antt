@@ -20,8 +20,8 @@ use Rattle.meaning.proofs.Refusals.{givenAt}
 use Rattle.meaning.proofs.TableFacts.{Facts, facts}
 use Rattle.meaning.proofs.TableRules.{kept-by-local}
 use Rattle.words_layout.specs.Layout.{holdsTable, tableOf, rewritten, sizeIn}
-use Rattle.table_checked.specs.Checked.{Checked}
-use Rattle.table_checked.proofs.Checking.{checked}
+use Rattle.table_rules.specs.Checked.{Checked}
+use Rattle.table_rules.proofs.Checking.{checked}
 use Rattle.line_hex.specs.Hex.{hexLine}
 use Rattle.line_hex.specs.Numbers.{AllBytes}
 use Rattle.line_hex.proofs.Bytes.{all-bytes-drop}
@@ -33,8 +33,8 @@ use Rattle.line_read.specs.Named.{issueRead, operationRead}
 use Rattle.line_read.proofs.Longest.{operation-at-most-longest}
 use Rattle.line_read.proofs.Named.{operation-reads-back}
 use Rattle.line_read.proofs.Spelling.{all-bytes-line-of}
-use Rattle.line_hear.specs.Hearing.{bytesOf}
-use Rattle.line_hear.proofs.Hearing.{bytes-back}
+use Rattle.line_decode.specs.Hearing.{bytesOf}
+use Rattle.line_decode.proofs.Hearing.{bytes-back}
 use Rattle.call_checked.specs.declared.Issued.{Issued}
 use Rattle.call_checked.specs.declared.Issued.the-variants as issued
 use Rattle.call_checked.specs.declared.Received.the-variants as received

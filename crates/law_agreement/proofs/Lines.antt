@@ -21,8 +21,8 @@ use Rattle.meaning.proofs.TableFacts.{facts}
 use Rattle.meaning.proofs.Agreement.{Within}
 use Rattle.words_layout.specs.Layout.{holdsTable, rowsIn, tableOf}
 use Rattle.refusal_kind.specs.Asking.{askedFrom}
-use Rattle.table_checked.specs.Checked.{Checked}
-use Rattle.table_checked.proofs.Checking.{checked}
+use Rattle.table_rules.specs.Checked.{Checked}
+use Rattle.table_rules.proofs.Checking.{checked}
 use Rattle.line_hex.specs.Choice.{pick}
 use Rattle.line_hex.specs.Hex.{hexLine}
 use Rattle.line_hex.specs.Numbers.{bigEndian}
@@ -34,7 +34,7 @@ use Rattle.line_put.proofs.Whole.{length-hex-line}
 use Rattle.line_read.specs.Types.{operation, question, refused}
 use Rattle.line_read.specs.Named.{issueRead, openingRead, operationRead, questionRead, settlingRead}
 use Rattle.line_print.specs.Printed.{printed}
-use Rattle.line_hear.specs.Hearing.{bytesOf}
+use Rattle.line_decode.specs.Hearing.{bytesOf}
 use Rattle.call_question.specs.Telling.{listBytes, refusalBytes, replyBytes}
 use Rattle.line_read.proofs.Lengths.{line-length}
 use Rattle.call_question.proofs.Told.{chain, never-long}
@@ -49,7 +49,7 @@ use Rattle.call_checked.specs.declared.Opened.the-variants as opened
 use Rattle.call_checked.specs.Spoken.{frameBytes, frameOf, headerRead, issuedOn, localOf, openedBy, receivedAs, receivedOn, settledOn}
 use Rattle.call_answer.specs.Answering.{answerOn, doneBytes, issueAnswer, issuedBytes, openedBytes, questionAnswer, receivedBytes, secondOpening, settledBytes, toldAfter}
 use Rattle.call_answer.proofs.Framing.{issue-framed, issue-refused}
-use Rattle.line_hear.specs.Hearing.{typeOf}
+use Rattle.line_decode.specs.Hearing.{typeOf}
 use Rattle.calls.specs.Answers.{answerOf}
 use Rattle.calls.specs.Calls as calls
 use Rattle.calls.specs.Calls.{receivedBy, settledBy}

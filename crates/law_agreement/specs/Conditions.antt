@@ -21,7 +21,7 @@ use Rattle.line_hex.specs.Decoding.{isLine}
 use Rattle.line_hex.specs.Hex.{hexLine}
 use Rattle.line_read.specs.Types.{Line, isOf, longest, opening, operation, issue, settling, question, printing}
 use Rattle.line_read.specs.Named.{countOf, stationsOf, issueRead, operationRead, questionRead, settlingRead}
-use Rattle.line_hear.specs.Hearing.{bytesOf}
+use Rattle.line_decode.specs.Hearing.{bytesOf}
 use Rattle.form_write.specs.Forms.{savedForm}
 use Rattle.form_save.specs.declared.Saved.{Saved}
 use Rattle.form_save.specs.declared.Saved.the-variants as saved

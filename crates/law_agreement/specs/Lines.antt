@@ -18,13 +18,13 @@ use Rattle.line_hex.specs.Choice.{pick}
 use Rattle.line_hex.specs.Hex.{figureZero, hexLine}
 use Rattle.line_read.specs.Types.{count, flag, issue, lineOf, opening, operation, printing, question, settling, sum}
 use Rattle.line_read.specs.Named.{issueRead, operationRead, questionRead}
-use Rattle.line_hear.specs.Hearing.{bytesOf}
+use Rattle.line_decode.specs.Hearing.{bytesOf}
 use Rattle.call_question.specs.Telling.{listBytes, refusalBytes, replyBytes}
 use Rattle.call_checked.specs.declared.Issued.{Issued}
 use Rattle.call_checked.specs.declared.Issued.the-variants as issued
 use Rattle.call_checked.specs.Spoken.{frameOf, localOf, openedBy}
 use Rattle.call_answer.specs.Answering.{changing, doneBytes, isType, openedBytes, receivedBytes, secondOpening, settledBytes}
-use Rattle.line_hear.specs.Hearing.{typeOf}
+use Rattle.line_decode.specs.Hearing.{typeOf}
 use Rattle.form_write.specs.Forms.{savedForm}
 use Rattle.form_save.specs.declared.Saved.{Saved}
 use Rattle.form_save.specs.declared.Saved.the-variants as saved

@@ -17,8 +17,8 @@ use Rattle.line_shape.specs.Reading.{entries, fieldsRead, hasShape, padded, sta
 use Rattle.line_put.specs.Writing.{lineBytes, writtenEach}
 use Rattle.line_read.specs.Types.{isOf, lineRead}
 use Rattle.line_read.specs.Named.{issueRead, openingRead, operationRead, questionRead, settlingRead}
-use Rattle.line_hear.specs.Hearing.{bytesOf, typeOf}
-use Rattle.line_hear.specs.Text.{characters, lineSaying}
+use Rattle.line_decode.specs.Hearing.{bytesOf, typeOf}
+use Rattle.line_decode.specs.Text.{characters, lineSaying}
 use Rattle.form_lines.specs.FormLines.{closingLine, clockLine, lastLine, openingLine, rowLine, totalLine}
 use Rattle.form_write.specs.Forms.{lastLines, rowLines, savedForm, totalLines}
 use Rattle.call_question.specs.Telling.{listBytes, refusalBytes, replyBytes}

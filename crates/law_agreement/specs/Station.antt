@@ -11,7 +11,7 @@ use Rattle.words_layout.specs.Layout.{tableOf}
 use Rattle.line_hex.specs.Choice.{pick}
 use Rattle.line_hex.specs.Hex.{hexLine}
 use Rattle.line_read.specs.Named.{issueRead, operationRead, settlingRead}
-use Rattle.line_hear.specs.Hearing.{bytesOf}
+use Rattle.line_decode.specs.Hearing.{bytesOf}
 use Rattle.calls.specs.Calls as calls
 use Rattle.call_checked.specs.Spoken.{frameBytes, frameOf, localOf}
 use Rattle.calls.specs.Calls.{receivedBy, settledBy}

@@ -12,13 +12,13 @@ use Rattle.meaning.specs.History.{Event, Station, afterAll, reached}
 use Rattle.meaning.proofs.Agreement.{Within}
 use Rattle.words_layout.specs.Layout.{capacityIn, rowsIn, sizeIn, spaceFor, tableOf, wordsOf}
 use Rattle.refusal_kind.specs.Asking.{askedFrom}
-use Rattle.table_checked.proofs.Checking.{checked}
+use Rattle.table_rules.proofs.Checking.{checked}
 use Rattle.arrival.proofs.Kept.{laid-back, laid-held}
 use Rattle.line_hex.specs.Choice.{pick}
 use Rattle.line_hex.specs.Hex.{hexLine}
 use Rattle.line_read.specs.Types.{question}
 use Rattle.line_read.specs.Named.{questionRead}
-use Rattle.line_hear.specs.Hearing.{bytesOf, typeOf}
+use Rattle.line_decode.specs.Hearing.{bytesOf, typeOf}
 use Rattle.form_write.specs.Forms.{rowLines, savedForm, totalLines}
 use Rattle.form_write.proofs.Agreeing.{equal-lines}
 use Rattle.call_question.specs.Telling.{refusalBytes, replyBytes}

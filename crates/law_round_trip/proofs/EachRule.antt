@@ -20,9 +20,9 @@ use Rattle.table_rules_clock.specs.ClockTests.{lastKept, totalKept}
 use Rattle.words_layout.proofs.Changing.{words-long}
 use Rattle.arrival.proofs.Kept.{laid-held}
 use Rattle.line_read.specs.Types.{headOf, lineRead, row}
-use Rattle.line_read_saved.specs.Named.{closingRead, rowRead}
-use Rattle.line_read_saved.proofs.Named.{closing-only-spelling}
-use Rattle.line_hear.specs.Hearing.{bytesOf}
+use Rattle.line_read.specs.SavedNamed.{closingRead, rowRead}
+use Rattle.line_read.proofs.SavedNamed.{closing-only-spelling}
+use Rattle.line_decode.specs.Hearing.{bytesOf}
 use Rattle.form_lines.specs.FormLines.{clockLine, closingLine, lastLine, rowLine, totalLine}
 use Rattle.form_take.specs.declared.Loaded.{Loaded}
 use Rattle.form_take.specs.declared.Loaded.the-variants as loaded

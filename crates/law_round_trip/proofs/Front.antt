@@ -26,9 +26,9 @@ use Rattle.line_hex.specs.Hex.{hexLine}
 use Rattle.line_hex.specs.Numbers.{AllBytes}
 use Rattle.line_read.specs.Types.{clock, lastVector, total}
 use Rattle.line_read.proofs.Spelling.{all-bytes-line-of}
-use Rattle.line_hear.specs.Hearing.{bytesOf}
-use Rattle.line_hear.proofs.Hearing.{bytes-back}
-use Rattle.line_read_saved.specs.Named.{clockRead, lastRead, totalRead}
+use Rattle.line_decode.specs.Hearing.{bytesOf}
+use Rattle.line_decode.proofs.Hearing.{bytes-back}
+use Rattle.line_read.specs.SavedNamed.{clockRead, lastRead, totalRead}
 use Rattle.form_lines.specs.FormLines.{clockLine, lastLine, totalLine}
 use Rattle.form_write.specs.Forms.{linesOf, lastLines, totalLines}
 use Rattle.form_write.specs.Seeking.{counterAt, otherAt}

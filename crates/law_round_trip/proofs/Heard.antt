@@ -23,8 +23,8 @@ use Rattle.line_shape.specs.Shapes.{lengthOf, read, written}
 use Rattle.line_shape.proofs.Spelling.{length-read}
 use Rattle.line_put.specs.Writing.{lineBytes}
 use Rattle.line_read.specs.Types.{Line, headOf, lineOf, lineRead}
-use Rattle.line_read_saved.specs.Named.{rowRead, totalRead}
-use Rattle.line_hear.specs.Hearing.{bytesOf}
+use Rattle.line_read.specs.SavedNamed.{rowRead, totalRead}
+use Rattle.line_decode.specs.Hearing.{bytesOf}
 
 pub heard-bytes : (line : List ℕ) → AllBytes (bytesOf line)
 unfolding bytesOf pairs

@@ -33,9 +33,9 @@ use Rattle.line_shape.specs.Shapes.{lengthOf, read, written}
 use Rattle.line_put.specs.Writing.{lineBytes}
 use Rattle.line_read.specs.Types.{opening, row, closing, headOf, lineRead}
 use Rattle.line_read.proofs.Spelling.{all-bytes-line-of}
-use Rattle.line_hear.specs.Hearing.{bytesOf, typeOf}
-use Rattle.line_hear.proofs.Hearing.{bytes-back}
-use Rattle.line_read_saved.specs.Named.{closingRead, rowRead}
+use Rattle.line_decode.specs.Hearing.{bytesOf, typeOf}
+use Rattle.line_decode.proofs.Hearing.{bytes-back}
+use Rattle.line_read.specs.SavedNamed.{closingRead, rowRead}
 use Rattle.form_lines.specs.FormLines.{openingLine, clockLine, rowLine, closingLine}
 use Rattle.form_lines.proofs.Parts.{row-small}
 use Rattle.form_write.specs.Forms.{lastLines, rowLines, savedForm, totalLines}

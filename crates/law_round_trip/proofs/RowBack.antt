@@ -25,11 +25,11 @@ use Rattle.line_hex.specs.Choice.{pick}
 use Rattle.line_hex.specs.Hex.{hexLine}
 use Rattle.line_shape.specs.Reading as shapes
 use Rattle.line_read.specs.Types.{closing, lineOf, row}
-use Rattle.line_read_saved.specs.declared.Row as saved
-use Rattle.line_read_saved.specs.Named.{closingRead, rowRead}
-use Rattle.line_read_saved.proofs.Named.{closing-only-spelling, row-only-spelling}
-use Rattle.line_read_saved.proofs.Vectors.{row-vector}
-use Rattle.line_hear.specs.Hearing.{bytesOf}
+use Rattle.line_read.specs.declared.Row as saved
+use Rattle.line_read.specs.SavedNamed.{closingRead, rowRead}
+use Rattle.line_read.proofs.SavedNamed.{closing-only-spelling, row-only-spelling}
+use Rattle.line_read.proofs.Vectors.{row-vector}
+use Rattle.line_decode.specs.Hearing.{bytesOf}
 use Rattle.form_lines.specs.FormLines.{closingLine, rowLine}
 use Rattle.form_take.specs.declared.Loaded.{Loaded}
 use Rattle.form_take.specs.declared.Loaded.the-variants as loaded

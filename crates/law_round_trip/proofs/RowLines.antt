@@ -24,10 +24,10 @@ use Rattle.arrival.proofs.Kept.{laid-held}
 use Rattle.table_rules_rows.specs.RowTests.{follows, rowKept}
 use Rattle.line_hex.specs.Choice.{pick}
 use Rattle.line_shape.specs.Reading as shapes
-use Rattle.line_read_saved.specs.declared.Row as saved
-use Rattle.line_read_saved.specs.declared.Closing.{Closing}
-use Rattle.line_read_saved.specs.Named.{closingRead, rowRead}
-use Rattle.line_hear.specs.Hearing.{bytesOf}
+use Rattle.line_read.specs.declared.Row as saved
+use Rattle.line_read.specs.declared.Closing.{Closing}
+use Rattle.line_read.specs.SavedNamed.{closingRead, rowRead}
+use Rattle.line_decode.specs.Hearing.{bytesOf}
 use Rattle.form_lines.proofs.Parts.{piece-at}
 use Rattle.form_take.specs.declared.Loaded.the-variants as loaded
 use Rattle.form_load.specs.declared.Next.the-variants as next

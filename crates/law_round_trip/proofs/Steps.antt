@@ -19,11 +19,11 @@ use Rattle.words_layout.proofs.Changing.{laid-again, put-clock, put-last, put-t
 use Rattle.table_rules_clock.specs.ClockTests.{lastKept, totalKept}
 use Rattle.line_hex.specs.Choice.{pick}
 use Rattle.line_shape.specs.Reading as shapes
-use Rattle.line_read_saved.specs.declared.Clock.{Clock}
-use Rattle.line_read_saved.specs.declared.LastVector.{LastVector}
-use Rattle.line_read_saved.specs.declared.Total.{Total}
-use Rattle.line_read_saved.specs.Named.{clockRead, lastRead, totalRead}
-use Rattle.line_hear.specs.Hearing.{bytesOf}
+use Rattle.line_read.specs.declared.Clock.{Clock}
+use Rattle.line_read.specs.declared.LastVector.{LastVector}
+use Rattle.line_read.specs.declared.Total.{Total}
+use Rattle.line_read.specs.SavedNamed.{clockRead, lastRead, totalRead}
+use Rattle.line_decode.specs.Hearing.{bytesOf}
 use Rattle.form_take.specs.declared.Loaded.the-variants as loaded
 use Rattle.form_load.specs.declared.Next.the-variants as next
 use Rattle.form_take.specs.Taking.{clockTaken, lastTaken, spoilt, took, totalTaken}

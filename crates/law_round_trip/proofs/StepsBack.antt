@@ -26,12 +26,12 @@ use Rattle.words_layout.proofs.Changing.{wide-set}
 use Rattle.table_rules_clock.specs.ClockTests.{lastKept, totalKept}
 use Rattle.line_hex.specs.Hex.{hexLine}
 use Rattle.line_read.specs.Types.{clock, lastVector, total, lineOf}
-use Rattle.line_read_saved.specs.declared.Clock.{Clock}
-use Rattle.line_read_saved.specs.declared.Total.{Total}
-use Rattle.line_read_saved.specs.Named.{clockRead, lastRead, totalRead}
-use Rattle.line_read_saved.proofs.Named.{clock-only-spelling, last-only-spelling, total-only-spelling}
-use Rattle.line_read_saved.proofs.Vectors.{clock-vector, last-vector}
-use Rattle.line_hear.specs.Hearing.{bytesOf}
+use Rattle.line_read.specs.declared.Clock.{Clock}
+use Rattle.line_read.specs.declared.Total.{Total}
+use Rattle.line_read.specs.SavedNamed.{clockRead, lastRead, totalRead}
+use Rattle.line_read.proofs.SavedNamed.{clock-only-spelling, last-only-spelling, total-only-spelling}
+use Rattle.line_read.proofs.Vectors.{clock-vector, last-vector}
+use Rattle.line_decode.specs.Hearing.{bytesOf}
 use Rattle.form_lines.specs.FormLines.{clockLine, lastLine, totalLine}
 use Rattle.form_take.specs.declared.Loaded.{Loaded}
 use Rattle.form_take.specs.declared.Loaded.the-variants as loaded

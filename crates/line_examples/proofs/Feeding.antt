@@ -9,10 +9,10 @@ use Rattle.line_hex.specs.Hex.{lf}
 use Rattle.line_hex.specs.Keeping.{kept}
 use Rattle.line_read.specs.Named.{openingRead}
 use Rattle.line_read.specs.declared.Opening.{Opening}
-use Rattle.line_hear.specs.Hearing.{bytesOf, heardIn, typeOf}
-use Rattle.line_hear.proofs.Hearing.{reads-heard}
-use Rattle.line_keep.specs.Feeding.{fed, Going, heldFed, heldTaken, taken, WholeLines}
-use Rattle.line_keep.proofs.Feeding as keeping
+use Rattle.line_decode.specs.Hearing.{bytesOf, heardIn, typeOf}
+use Rattle.line_decode.proofs.Hearing.{reads-heard}
+use Rattle.line_decode.specs.Feeding.{fed, Going, heldFed, heldTaken, taken, WholeLines}
+use Rattle.line_decode.proofs.Feeding as keeping
 use Rattle.line_examples.specs.declared.Kept.{Kept}
 use Rattle.line_examples.specs.declared.More.{More}
 use Rattle.line_examples.specs.declared.More.the-variants.{Yes}

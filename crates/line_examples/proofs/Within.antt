@@ -15,10 +15,10 @@ use Rattle.line_read.specs.Types.{clock, headOf, lastVector, lineRead, row}
 use Rattle.line_read.specs.Named.{operationRead}
 use Rattle.line_read.specs.declared.Operation.{Operation}
 use Rattle.line_read.proofs.Named.{operation-stations-few}
-use Rattle.line_read_saved.specs.Named.{clockRead, lastRead, rowRead}
-use Rattle.line_read_saved.specs.declared.Clock.{Clock}
-use Rattle.line_read_saved.specs.declared.LastVector.{LastVector}
-use Rattle.line_read_saved.specs.declared.Row.{Row}
+use Rattle.line_read.specs.SavedNamed.{clockRead, lastRead, rowRead}
+use Rattle.line_read.specs.declared.Clock.{Clock}
+use Rattle.line_read.specs.declared.LastVector.{LastVector}
+use Rattle.line_read.specs.declared.Row.{Row}
 
 -- fields are read only where the group is of at most 16
 fields-within : (s widths : List ℕ) (kind stations : ℕ) → fieldsRead kind widths stations s .ok ≡ true → stations ≤ 16

@@ -3,8 +3,8 @@ use Prim.Native.Nat.{ℕ}
 use mathlib.Core.List.{List}
 use Rattle.line_hex.specs.Choice.{pick}
 use Rattle.line_read.specs.Named.{openingRead}
-use Rattle.line_hear.specs.Hearing.{bytesOf}
-use Rattle.line_keep.specs.Feeding.{Going}
+use Rattle.line_decode.specs.Hearing.{bytesOf}
+use Rattle.line_decode.specs.Feeding.{Going}
 use Rattle.line_examples.specs.declared.More.{More}
 use Rattle.line_examples.specs.declared.More.the-variants.{Yes, No}
 

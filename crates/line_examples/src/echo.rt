@@ -100,7 +100,7 @@ fn echo_printing(s: &[u8], out: &mut [u8]) -> Written {
 }
 
 fn echo_clock(s: &[u8], stations: usize, out: &mut [u8]) -> Written {
-    let r = line_read_saved::read_clock(s, stations);
+    let r = line_read::read_clock(s, stations);
     let vector = r.vector;
     if !r.ok {
         return refuse(out);
@@ -109,7 +109,7 @@ fn echo_clock(s: &[u8], stations: usize, out: &mut [u8]) -> Written {
 }
 
 fn echo_last(s: &[u8], stations: usize, out: &mut [u8]) -> Written {
-    let r = line_read_saved::read_last(s, stations);
+    let r = line_read::read_last(s, stations);
     let vector = r.vector;
     if !r.ok {
         return refuse(out);
@@ -118,7 +118,7 @@ fn echo_last(s: &[u8], stations: usize, out: &mut [u8]) -> Written {
 }
 
 fn echo_total(s: &[u8], out: &mut [u8]) -> Written {
-    let r = line_read_saved::read_total(s);
+    let r = line_read::read_total(s);
     if !r.ok {
         return refuse(out);
     }
@@ -126,7 +126,7 @@ fn echo_total(s: &[u8], out: &mut [u8]) -> Written {
 }
 
 fn echo_row(s: &[u8], stations: usize, out: &mut [u8]) -> Written {
-    let r = line_read_saved::read_row(s, stations);
+    let r = line_read::read_row(s, stations);
     let vector = r.vector;
     if !r.ok {
         return refuse(out);
@@ -143,7 +143,7 @@ fn echo_row(s: &[u8], stations: usize, out: &mut [u8]) -> Written {
 }
 
 fn echo_closing(s: &[u8], out: &mut [u8]) -> Written {
-    let r = line_read_saved::read_closing(s);
+    let r = line_read::read_closing(s);
     if !r.ok {
         return refuse(out);
     }

@@ -2,7 +2,7 @@
 ghost use mathlib.Core.Path.{_≡_};
 ghost use Prim.Native.Nat.{_≤_};
 ghost use lib.ListN.{length};
-ghost use Rattle.line_keep.specs.Feeding.{fed, Going, heldFed, heldTaken, taken, WholeLines};
+ghost use Rattle.line_decode.specs.Feeding.{fed, Going, heldFed, heldTaken, taken, WholeLines};
 ghost use Rattle.line_examples.specs.Feeding.{groupAfter, StillGoing};
 
 mod echo;
@@ -63,7 +63,7 @@ fn reply(line: &[u8], stations: usize) -> usize
     ensures { λ r. ⌜ r ≡ groupAfter (now (line .entry)) stations ⌝ }
 {
     let mut bytes = [0u8; line_read::LONGEST];
-    let n = line_hear::hear(line, &mut bytes);
+    let n = line_decode::hear(line, &mut bytes);
     let mut out = [0u8; LINE];
     let written = echo::echo(&bytes[0..n], stations, &mut out);
     print(&out, written);

@@ -18,13 +18,13 @@ use Rattle.line_read.specs.declared.Opening.{Opening}
 use Rattle.line_read.specs.declared.Operation.{Operation}
 use Rattle.line_read.proofs.Named.{operation-only-spelling, operation-reads-back}
 use Rattle.line_read.proofs.Taken.{opening-kinds-read-back, opening-only-spelling, opening-reads-back}
-use Rattle.line_read_saved.specs.Named.{clockRead, closingRead, lastRead, rowRead, totalRead}
-use Rattle.line_read_saved.specs.declared.Clock.{Clock}
-use Rattle.line_read_saved.specs.declared.Closing.{Closing}
-use Rattle.line_read_saved.specs.declared.LastVector.{LastVector}
-use Rattle.line_read_saved.specs.declared.Row.{Row}
-use Rattle.line_read_saved.specs.declared.Total.{Total}
-use Rattle.line_read_saved.proofs.Named as saved
+use Rattle.line_read.specs.SavedNamed.{clockRead, closingRead, lastRead, rowRead, totalRead}
+use Rattle.line_read.specs.declared.Clock.{Clock}
+use Rattle.line_read.specs.declared.Closing.{Closing}
+use Rattle.line_read.specs.declared.LastVector.{LastVector}
+use Rattle.line_read.specs.declared.Row.{Row}
+use Rattle.line_read.specs.declared.Total.{Total}
+use Rattle.line_read.proofs.SavedNamed as saved
 use Rattle.line_put.specs.declared.Written.the-variants.{Characters}
 use Rattle.line_print.specs.Printed.{printed}
 use Rattle.line_print.proofs.Spelling.{printed-line, printed-reads-back}

@@ -6,3 +6,5 @@ pub mod Named
 pub mod Longest
 pub mod Eight
 pub mod Lengths
+pub mod Vectors
+pub mod SavedNamed

@@ -22,7 +22,7 @@ use Rattle.table_change.proofs.Changing.{opened}
 use Rattle.table_change.proofs.Totals.{old-total}
 use Rattle.words_tags.specs.declared.RowCount.{RowCount}
 use Rattle.refusal_kind.specs.Asking.{askedFrom}
-use Rattle.table_checked.specs.Checked.{Checked}
+use Rattle.table_rules.specs.Checked.{Checked}
 use Rattle.refusal_order.specs.Fields.{headerOfKinds}
 use Rattle.refusal_order.proofs.Chains.{asked-by-kinds}
 use Rattle.question.specs.Replies.{replied, listReply}

@@ -7,14 +7,14 @@ ghost use Rattle.meaning.specs.Questions.{byRows};
 ghost use Rattle.meaning.specs.Calls.{ask};
 ghost use Rattle.words_layout.specs.Layout.{objectsIn, tableOf, totalWords};
 ghost use Rattle.refusal_kind.specs.Asking.{askedFrom};
-ghost use Rattle.table_checked.specs.Checked.{Checked};
+ghost use Rattle.table_rules.specs.Checked.{Checked};
 ghost use Rattle.question.specs.Replies.{listReply, replied};
 use words_layout::KINDS_AT;
 use words_layout::OBJECTS_AT;
 use words_layout::TOTAL_WORDS;
 use words_layout::TOTALS_AT;
 use words_tags::RowCount;
-use table_totals::Total;
+use table_change::Total;
 
 // What a question gets: a refusal by its number, 11 with the needed count, or the answer; a list stands in the space, and its length here.
 pub enum Reply {

@@ -11,7 +11,7 @@ use Rattle.meaning.specs.Rows.{Row, countByRows}
 use Rattle.meaning.specs.Table.{Table, isTable}
 use Rattle.meaning.specs.Questions.{byRows}
 use Rattle.words_layout.specs.Layout.{tableOf}
-use Rattle.table_checked.specs.Checked.{Checked}
+use Rattle.table_rules.specs.Checked.{Checked}
 use Rattle.meaning.proofs.Tests.{cases}
 use Rattle.question_scan.specs.Showing.{shows, shown, beforeShown}
 use Rattle.question_scan.proofs.Tabled.{table-list}

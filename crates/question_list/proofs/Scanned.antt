@@ -12,7 +12,7 @@ use Rattle.meaning.specs.Rows.{Row}
 use Rattle.meaning.specs.Questions.{byRows}
 use Rattle.words_layout.specs.Words.{pieces}
 use Rattle.words_layout.specs.Layout.{tableOf, rowOf, rowsAt, rowWidth, sizeIn, countIn}
-use Rattle.table_checked.specs.Checked.{Checked}
+use Rattle.table_rules.specs.Checked.{Checked}
 use Rattle.question_scan.specs.Showing.{countShown, valueShown}
 use Rattle.question_scan.proofs.Tabled.{table-count, table-in}
 

@@ -18,7 +18,7 @@ use Rattle.meaning.proofs.Tests.{cases, between-out}
 use Rattle.meaning.proofs.TableFacts.{facts}
 use Rattle.words_layout.specs.Words.{pieces, ofTwoWords}
 use Rattle.words_layout.specs.Layout.{tableOf, rowOf, rowsAt, rowWidth, sizeIn, countIn}
-use Rattle.table_checked.specs.Checked.{Checked}
+use Rattle.table_rules.specs.Checked.{Checked}
 use Rattle.question_scan.specs.Showing.{shows, shown, beforeShown}
 use Rattle.question_scan.proofs.Listing.{rows-number}
 use Rattle.question_scan.proofs.Scanning.{none-left, step-most, next-and-rest}

@@ -6,7 +6,7 @@ ghost use lib.ListN.{length, drop};
 ghost use Rattle.meaning.specs.Questions.{byRows};
 ghost use Rattle.words_layout.specs.Layout.{rowsAt, rowWidth, sizeIn, tableOf};
 ghost use Rattle.table_insert.specs.Placing.{keyWords};
-ghost use Rattle.table_checked.specs.Checked.{Checked};
+ghost use Rattle.table_rules.specs.Checked.{Checked};
 ghost use Rattle.question_list.specs.Walking.{nextValue, valuesBehind};
 use words_layout::CLOCK_AT;
 use words_layout::COUNT_AT;

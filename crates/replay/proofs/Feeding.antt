@@ -7,8 +7,8 @@ use lib.ListN.{length, getD, take}
 use lib.Seq.{length-take-le}
 use Rattle.line_hex.specs.Hex.{lf}
 use Rattle.line_hex.specs.Keeping.{kept}
-use Rattle.line_keep.specs.Feeding.{fed, heldFed, heldTaken, taken}
-use Rattle.line_keep.proofs.Feeding as keeping
+use Rattle.line_decode.specs.Feeding.{fed, heldFed, heldTaken, taken}
+use Rattle.line_decode.proofs.Feeding as keeping
 use Rattle.calls.specs.Answers.{longestAnswer}
 use Rattle.program_output.specs.Gathering.{HasRoom}
 use Rattle.replay.specs.declared.Playing.{Playing}

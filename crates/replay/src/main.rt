@@ -4,7 +4,7 @@ ghost use Prim.Native.Nat.{_≤_};
 ghost use lib.ListN.{length, take};
 ghost use Rattle.calls.specs.Answers.{longestAnswer};
 ghost use Rattle.program_output.specs.Gathering.{HasRoom};
-ghost use Rattle.line_keep.specs.Feeding.{fed, heldFed, heldTaken, taken};
+ghost use Rattle.line_decode.specs.Feeding.{fed, heldFed, heldTaken, taken};
 ghost use Rattle.replay.specs.Replaying.{begins, ended, isTitle, lastEnded, played, replayed, turned};
 ghost use Rattle.replay.specs.Ready.{Ready, StillReady};
 use program_output::LINE;

@@ -7,8 +7,8 @@ use lib.ListN.{getD, length, take}
 use Rattle.line_hex.specs.Hex.{lf}
 use Rattle.line_hex.specs.Keeping.{kept}
 use Rattle.table_ranges.specs.Spaces.{mostWords}
-use Rattle.line_keep.specs.Feeding.{fed, Going, heldFed, heldTaken, LastPiece, taken, WholeLines}
-use Rattle.line_keep.proofs.Feeding as keeping
+use Rattle.line_decode.specs.Feeding.{fed, Going, heldFed, heldTaken, LastPiece, taken, WholeLines}
+use Rattle.line_decode.proofs.Feeding as keeping
 use Rattle.form_judge.specs.declared.Judged.{Judged}
 use Rattle.form_judge.specs.declared.Judged.the-variants as judged
 use Rattle.form_judge.specs.Judging.{Judging, judgedBy, judgedEnd}

@@ -4,7 +4,7 @@ use mathlib.Core.Path.{_≡_}
 use mathlib.Core.List.{List}
 use Rattle.form_judge.specs.Judging.{Judging, judgedBy, judgedEnd}
 use Rattle.program_output.specs.Gathering.{Gathered, Held, reprinted}
-use Rattle.line_keep.specs.Feeding.{atEnd, fed, Going, heldFed, Keeps}
+use Rattle.line_decode.specs.Feeding.{atEnd, fed, Going, heldFed, Keeps}
 use Rattle.resave.specs.declared.More.{More}
 use Rattle.resave.specs.declared.More.the-variants as more
 

@@ -4,7 +4,7 @@ ghost use Prim.Native.Nat.{_≤_};
 ghost use lib.ListN.{length};
 ghost use Rattle.program_output.specs.Gathering.{HasRoom};
 ghost use Rattle.form_judge.specs.Judging.{judgedBy};
-ghost use Rattle.line_keep.specs.Feeding.{fed, Going, heldFed, heldTaken, LastPiece, taken, WholeLines};
+ghost use Rattle.line_decode.specs.Feeding.{fed, Going, heldFed, heldTaken, LastPiece, taken, WholeLines};
 ghost use Rattle.table_ranges.specs.Spaces.{mostWords};
 ghost use Rattle.resave.specs.Ending.{AfterRead, FormEnd, Read};
 ghost use Rattle.form_judge.specs.declared.Judged.the-variants.{Open};

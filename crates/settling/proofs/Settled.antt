@@ -25,9 +25,9 @@ use Rattle.words_layout.proofs.Reading.{short}
 use Rattle.words_layout.proofs.Changing.{kinds-are}
 use Rattle.table_change.specs.Changes.{Opened}
 use Rattle.table_change.proofs.Changing.{opened, all-of, nothing-behind}
-use Rattle.table_checked.specs.Checked.{Checked}
-use Rattle.settling_low.specs.Below.{isBelow, othersBelow}
-use Rattle.settling_low.proofs.Least.{low-length, wide-others}
+use Rattle.table_rules.specs.Checked.{Checked}
+use Rattle.settling.specs.Below.{isBelow, othersBelow}
+use Rattle.settling.proofs.Least.{low-length, wide-others}
 use Rattle.settling_step.specs.Held.{kindAt, Held}
 use Rattle.settling_pass.specs.Passing.{rowsThen, stepsThen}
 

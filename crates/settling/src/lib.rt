@@ -1,15 +1,56 @@
 // The settling call on a table that was checked: Low is found, and the rows are passed once.
+// Low, from the vectors of the last frames accepted.
 ghost use mathlib.Core.Path.{_≡_};
-ghost use Prim.Native.Nat.{_≤_};
-ghost use lib.ListN.{take, drop};
+ghost use mathlib.Core.Bool.{true};
+ghost use Prim.Native.Nat.{_+_, _*_, _<_, _≤_};
+ghost use lib.ListN.{length, take, drop};
+ghost use Rattle.meaning.specs.Order.{leastOf, lowOf, othersOf};
+ghost use Rattle.words_layout.specs.Words.{padded, pieces};
+ghost use Rattle.settling.specs.Below.{mostStations, othersBelow};
 ghost use Rattle.meaning.specs.Table.{low};
 ghost use Rattle.meaning.specs.Calls.{rowsSettled, steps, withRows};
-ghost use Rattle.words_layout.specs.Words.{padded};
 ghost use Rattle.words_layout.specs.Layout.{kindsAt, rewritten, sizeIn, tableOf};
 ghost use Rattle.table_change.specs.Changes.{Opened};
-ghost use Rattle.table_checked.specs.Checked.{Checked};
+ghost use Rattle.table_rules.specs.Checked.{Checked};
 use words_tags::RowCount;
 use words_tags::Station;
+
+// A group has at most so many stations.
+pub const MOST_STATIONS: usize = 16;
+
+// Lessens a vector, where it stands, by that of every station but the own one.
+fn lessen_by_others(low: &mut [u32], lasts: &[u32], own: Station)
+    requires { ⌜ length (now low) * length (now low) ≤ length (now lasts) ⌝ }
+    ensures { λ _. ⌜ now (low .exit) ≡ leastOf (now (low .entry)) (othersOf (own .0) (pieces (length (now (low .entry))) (length (now (low .entry))) (now (lasts .entry)))) ⌝ }
+{
+    let place = words_tags::wide(own.0);
+    let mut k = 0;
+    let mut at = 0;
+    while k < low.len() {
+        let station = k;
+        let end = at + low.len();
+        k += 1;
+        if station == place {
+            at = end;
+        } else {
+            words_tags::lessen(low, &lasts[at..end]);
+            at = end;
+        }
+    }
+}
+
+// Low, entry by entry, with zeros behind it: every L[k] is at or below D, so that the least of D and the others' is the others'.
+pub fn low_of(clock: &[u32], lasts: &[u32], own: Station) -> [u32; MOST_STATIONS]
+    requires { ⌜ (length (now clock) ≤ mostStations) × (length (now clock) * length (now clock) ≤ length (now lasts)) ⌝ }
+    requires { ⌜ othersBelow (now clock) (own .0) (pieces (length (now clock)) (length (now clock)) (now lasts)) ≡ true ⌝ }
+    ensures { λ r. ⌜ r ≡ padded mostStations (lowOf (now (clock .entry)) (othersOf (own .0) (pieces (length (now (clock .entry))) (length (now (clock .entry))) (now (lasts .entry))))) ⌝ }
+{
+    let mut low = [0u32; MOST_STATIONS];
+    words_moves::put(&mut low, 0, clock);
+    let end = clock.len();
+    lessen_by_others(&mut low[0..end], lasts, own);
+    low
+}
 
 // A table has at most so many objects.
 const MOST_OBJECTS: usize = 32;
@@ -25,12 +66,12 @@ fn kinds_of(s: &[u32]) -> [u32; MOST_OBJECTS]
 }
 
 // Low of a table, with zeros behind it.
-fn low_in(s: &[u32], size: usize) -> [u32; settling_low::MOST_STATIONS]
+fn low_in(s: &[u32], size: usize) -> [u32; MOST_STATIONS]
     requires { ⌜ Checked (now s) × (size ≡ sizeIn (now s)) × (size ≤ 16) ⌝ }
     ensures { λ r. ⌜ r ≡ padded 16 (low (tableOf (now (s .entry)))) ⌝ }
 {
     let end = words_layout::CLOCK_AT + size;
-    settling_low::low_of(
+    low_of(
         &s[words_layout::CLOCK_AT..end],
         &s[end..],
         Station(s[words_layout::OWN_AT]),

@@ -7,8 +7,8 @@ use lib.ListN.{length, getD, take}
 use Rattle.line_hex.specs.Hex.{lf}
 use Rattle.line_hex.specs.Keeping.{kept}
 use Rattle.table_ranges.specs.Spaces.{mostWords}
-use Rattle.line_keep.specs.Feeding.{fed, Going, heldFed, heldTaken, LastPiece, taken, WholeLines}
-use Rattle.line_keep.proofs.Feeding as keeping
+use Rattle.line_decode.specs.Feeding.{fed, Going, heldFed, heldTaken, LastPiece, taken, WholeLines}
+use Rattle.line_decode.proofs.Feeding as keeping
 use Rattle.program_output.specs.Gathering.{HasRoom, replied}
 use Rattle.program_output.proofs.Alike.{replied-alike}
 use Rattle.station.specs.declared.More.{More}

@@ -1,7 +1,7 @@
 -- Where input goes on, the line's space holds what was kept of a line; at its end what was kept before is kept.
 use Prim.Native.Nat.{ℕ}
 use mathlib.Core.List.{List}
-use Rattle.line_keep.specs.Feeding.{Going}
+use Rattle.line_decode.specs.Feeding.{Going}
 use Rattle.station.specs.declared.More.{More}
 use Rattle.station.specs.declared.More.the-variants as more
 

@@ -4,7 +4,7 @@ ghost use Prim.Native.Nat.{_≤_};
 ghost use lib.ListN.{length};
 ghost use Rattle.table_ranges.specs.Spaces.{mostWords};
 ghost use Rattle.program_output.specs.Gathering.{HasRoom, replied};
-ghost use Rattle.line_keep.specs.Feeding.{fed, Going, heldFed, heldTaken, LastPiece, taken, WholeLines};
+ghost use Rattle.line_decode.specs.Feeding.{fed, Going, heldFed, heldTaken, LastPiece, taken, WholeLines};
 ghost use Rattle.station.specs.Ending.{StillGoing};
 use program_output::LINE;
 use program_output::MOST_WORDS;

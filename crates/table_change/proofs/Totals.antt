@@ -13,7 +13,7 @@ use Rattle.meaning.specs.Table.{Table}
 use Rattle.words_layout.specs.Words.{pieces}
 use Rattle.words_layout.specs.Layout.{Laid, tableOf, rewritten, sizeIn, objectsIn, totalWords, totalOfWords, withTotals}
 use Rattle.words_layout.proofs.Changing.{put-total}
-use Rattle.table_totals.specs.Changes.{change}
+use Rattle.table_change.specs.TotalChange.{change}
 use Rattle.table_change.specs.Changes.{Opened, totalsChanged}
 
 -- two words set one after the other are a part put in

@@ -10,7 +10,7 @@ use Rattle.meaning.specs.Order.{Vector, entryLimit}
 use Rattle.meaning.specs.Rows.{Row}
 use Rattle.meaning.specs.Table.{Table}
 use Rattle.words_layout.specs.Layout.{Laid, rowsAt, rowWidth, sizeIn, capacityIn, countIn}
-use Rattle.table_totals.specs.Changes.{change}
+use Rattle.table_change.specs.TotalChange.{change}
 use Rattle.table_drop.specs.Arriving.{operationOf, goes}
 use Rattle.table_drop.specs.declared.Arrival.{Arrival}
 

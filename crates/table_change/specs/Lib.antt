@@ -1,1 +1,2 @@
+pub mod TotalChange
 pub mod Changes

@@ -1,23 +1,77 @@
 // A table in lent words, changed where it stands.
+// Totals in two words, two's complement: an amount added or taken away, wrapping as 64 bits do.
 ghost use mathlib.Core.Path.{_≡_};
-ghost use mathlib.Core.List.{_++_};
-ghost use Prim.Native.Nat.{_+_, _<_};
+ghost use mathlib.Core.List.{[], _∷_, _++_};
+ghost use Prim.Native.Nat.{_+_, _*_, _-_, _%_, _<_};
+ghost use lib.IntN.{pos, negℤ, _+ℤ_};
+ghost use Rattle.words_layout.specs.Words.{twoWordLimit, wordLimit};
+ghost use Rattle.words_layout.specs.Layout.{totalOfWords, totalWords, capacityIn, objectsIn, rewritten, rowOf, rowWords, tableOf, withClock, withLast, withTotals};
+ghost use Rattle.table_change.specs.TotalChange.{change};
 ghost use lib.ListN.{length, set};
 ghost use Rattle.meaning.specs.Order.{raised};
 ghost use Rattle.meaning.specs.Rows.{insertRow};
 ghost use Rattle.meaning.specs.Calls.{withRows};
-ghost use Rattle.words_layout.specs.Layout.{capacityIn, objectsIn, rewritten, rowOf, rowWords, tableOf, withClock, withLast, withTotals};
 ghost use Rattle.table_insert.specs.Placing.{keyWords};
 ghost use Rattle.table_change.specs.Changes.{entryBelowLimit, Opened, rowsLeft, totalsChanged};
+use table_drop::Arrival;
 use words_layout::CLOCK_AT;
 use words_layout::COUNT_AT;
 use words_layout::KEY;
-use words_layout::TOTAL_WORDS;
 use words_layout::TOTALS_AT;
-use table_drop::Arrival;
+use words_layout::TOTAL_WORDS;
 use words_tags::RowCount;
 use words_tags::Station;
-use table_totals::Total;
+
+// The high word and the low word.
+pub struct Total(pub u32, pub u32);
+
+// The words of a number that is higher by an amount.
+fn words_plus(t: Total, amount: u32) -> Total
+    ensures { λ r. ⌜ r .0 * wordLimit + r .1 ≡ (t .0 * wordLimit + t .1 + amount) % twoWordLimit ⌝ }
+{
+    let low = std::num::wrapping_add_u32(t.1, amount);
+    if low < amount {
+        Total(std::num::wrapping_add_u32(t.0, 1), low)
+    } else {
+        Total(t.0, low)
+    }
+}
+
+// The words of a number that is lower by an amount.
+fn words_minus(t: Total, amount: u32) -> Total
+    ensures { λ r. ⌜ r .0 * wordLimit + r .1 ≡ (t .0 * wordLimit + t .1 + twoWordLimit - amount) % twoWordLimit ⌝ }
+{
+    let low = std::num::wrapping_sub_u32(t.1, amount);
+    if t.1 < amount {
+        Total(std::num::wrapping_sub_u32(t.0, 1), low)
+    } else {
+        Total(t.0, low)
+    }
+}
+
+// The total with an amount more.
+fn increased(t: Total, amount: u32) -> Total
+    ensures { λ r. ⌜ r .0 ∷ r .1 ∷ [] ≡ totalWords (totalOfWords (t .0 ∷ t .1 ∷ []) +ℤ pos amount) ⌝ }
+{
+    words_plus(t, amount)
+}
+
+// The total with an amount less.
+fn decreased(t: Total, amount: u32) -> Total
+    ensures { λ r. ⌜ r .0 ∷ r .1 ∷ [] ≡ totalWords (totalOfWords (t .0 ∷ t .1 ∷ []) +ℤ negℤ (pos amount)) ⌝ }
+{
+    words_minus(t, amount)
+}
+
+// The total after an increase or a decrease.
+pub fn changed(t: Total, amount: u32, increase: bool) -> Total
+    ensures { λ r. ⌜ r .0 ∷ r .1 ∷ [] ≡ totalWords (totalOfWords (t .0 ∷ t .1 ∷ []) +ℤ change increase amount) ⌝ }
+{
+    if increase {
+        return increased(t, amount);
+    }
+    decreased(t, amount)
+}
 
 // Drops the rows that go when an operation arrives, and counts the others.
 pub fn drop_going(s: &mut [u32], size: usize, count: RowCount, a: Arrival, v: &[u32]) -> RowCount
@@ -75,7 +129,7 @@ pub fn change_total(
 {
     let at = TOTALS_AT + object * TOTAL_WORDS;
     let old = Total(s[at], s[at + 1]);
-    let new = table_totals::changed(old, amount, increase);
+    let new = changed(old, amount, increase);
     s[at] = new.0;
     s[at + 1] = new.1;
 }

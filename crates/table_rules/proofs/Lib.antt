@@ -1,3 +1,4 @@
 pub mod Heading
 pub mod Parts
 pub mod Holding
+pub mod Checking

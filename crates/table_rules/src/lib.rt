@@ -1,4 +1,5 @@
 // The one test that every outside call makes: whether lent words hold a table.
+// A table that was checked: what the calls behind the one test of a space stand on. This crate has no functions.
 ghost use mathlib.Core.Path.{_≡_};
 ghost use Prim.Native.Nat.{_≤_};
 ghost use lib.Dec.{leb};
@@ -7,6 +8,10 @@ ghost use Rattle.meaning.specs.Tests.{between, every};
 ghost use Rattle.words_layout.specs.Layout.{capacityIn, holdsTable, rowsIn, sizeIn, spaceFor};
 ghost use Rattle.table_rules_rows.specs.RowTests.{rowsKept};
 ghost use Rattle.table_rules.specs.TableTests.{clockIn, headKept, Headed, kindsIn, kindsKept, lastsKept, partsKept, sizesKept, totalsKept, unusedKept};
+use table_ranges::GREATEST_CAPACITY;
+use table_ranges::GREATEST_KIND;
+use table_ranges::GREATEST_SIZE;
+use table_ranges::MOST_OBJECTS;
 use words_layout::CAPACITY_AT;
 use words_layout::CLOCK_AT;
 use words_layout::COUNT_AT;
@@ -18,12 +23,8 @@ use words_layout::OBJECTS_AT;
 use words_layout::OWN_AT;
 use words_layout::SIZE_AT;
 use words_layout::TABLE_MARK;
-use words_layout::TOTAL_WORDS;
 use words_layout::TOTALS_AT;
-use table_ranges::GREATEST_CAPACITY;
-use table_ranges::GREATEST_KIND;
-use table_ranges::GREATEST_SIZE;
-use table_ranges::MOST_OBJECTS;
+use words_layout::TOTAL_WORDS;
 use words_tags::RowCount;
 use words_tags::Station;
 
@@ -194,3 +195,4 @@ pub fn is_table(s: &[u32]) -> bool
     }
     false
 }
+

@@ -5,7 +5,7 @@ use Rattle.call_answer.proofs.answer_opening.Statement.{statement}
 use Rattle.call_answer.proofs.answer_opening.Tie as tie
 use Rattle.call_answer.proofs.answer_opening.Reads as reads
 use Rattle.call_answer.proofs.answer_opening.Lts as lts
-use Rattle.line_hear.proofs.is_opening.Reads as is-opening-reads
+use Rattle.line_decode.proofs.is_opening.Reads as is-opening-reads
 use Rattle.line_print.proofs.write_refusal.Reads as write-refusal-reads
 
 is-opening-requires : tie.Need-is-opening-requires

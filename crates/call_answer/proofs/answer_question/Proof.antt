@@ -5,7 +5,7 @@ use Rattle.call_answer.proofs.answer_question.Statement.{statement}
 use Rattle.call_answer.proofs.answer_question.Tie as tie
 use Rattle.call_answer.proofs.answer_question.Reads as reads
 use Rattle.call_answer.proofs.answer_question.Lts as lts
-use Rattle.line_hear.proofs.question.Reads as question-reads
+use Rattle.line_decode.proofs.question.Reads as question-reads
 use Rattle.line_print.proofs.write_refusal.Reads as write-refusal-reads
 use Rattle.call_question.proofs.tell.Reads as tell-reads
 

@@ -6,7 +6,7 @@ use Rattle.call_checked.proofs.ask_line.Tie as tie
 use Rattle.call_checked.proofs.ask_line.Reads as reads
 use Rattle.call_checked.proofs.ask_line.Lts as lts
 use Rattle.question.proofs.ask_table.Reads as ask-table-reads
-use Rattle.line_hear.proofs.question.Reads as question-reads
+use Rattle.line_decode.proofs.question.Reads as question-reads
 
 question-requires : tie.Need-question-requires
 question-requires c κs = search needs

@@ -6,7 +6,7 @@ use Rattle.call_checked.proofs.issue_line.Tie as tie
 use Rattle.call_checked.proofs.issue_line.Reads as reads
 use Rattle.call_checked.proofs.issue_line.Lts as lts
 use Rattle.call_checked.proofs.issue_read.Reads as issue-read-reads
-use Rattle.line_hear.proofs.issue.Reads as issue-reads
+use Rattle.line_decode.proofs.issue.Reads as issue-reads
 
 issue-requires : tie.Need-issue-requires
 issue-requires c κs = search needs

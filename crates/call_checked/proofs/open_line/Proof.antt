@@ -1,4 +1,4 @@
-use Rattle.line_hear.proofs.Hearing.{heard-room}
+use Rattle.line_decode.proofs.Hearing.{heard-room}
 use Rattle.call_checked.proofs.Opening.{kinds-start, open-misshapen, open-heard}
 use native.Mathlib.Omega.{arith}
 use borrow.Author.Needs.{needs}
@@ -7,7 +7,7 @@ use Rattle.call_checked.proofs.open_line.Tie as tie
 use Rattle.call_checked.proofs.open_line.Reads as reads
 use Rattle.call_checked.proofs.open_line.Lts as lts
 use Rattle.call_checked.proofs.open_with.Reads as open-with-reads
-use Rattle.line_hear.proofs.hear.Reads as hear-reads
+use Rattle.line_decode.proofs.hear.Reads as hear-reads
 use Rattle.line_read.proofs.read_opening.Reads as read-opening-reads
 
 hear-requires : tie.Need-hear-requires

@@ -6,7 +6,7 @@ use Rattle.call_checked.proofs.receive_line.Tie as tie
 use Rattle.call_checked.proofs.receive_line.Reads as reads
 use Rattle.call_checked.proofs.receive_line.Lts as lts
 use Rattle.call_checked.proofs.receive_read.Reads as receive-read-reads
-use Rattle.line_hear.proofs.operation.Reads as operation-reads
+use Rattle.line_decode.proofs.operation.Reads as operation-reads
 
 operation-requires : tie.Need-operation-requires
 operation-requires c κs = search needs

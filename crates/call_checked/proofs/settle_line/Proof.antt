@@ -5,7 +5,7 @@ use Rattle.call_checked.proofs.settle_line.Statement.{statement}
 use Rattle.call_checked.proofs.settle_line.Tie as tie
 use Rattle.call_checked.proofs.settle_line.Reads as reads
 use Rattle.call_checked.proofs.settle_line.Lts as lts
-use Rattle.line_hear.proofs.settling.Reads as settling-reads
+use Rattle.line_decode.proofs.settling.Reads as settling-reads
 use Rattle.settling.proofs.settle_table.Reads as settle-table-reads
 
 settling-requires : tie.Need-settling-requires

@@ -8,7 +8,7 @@ use Rattle.calls.proofs.answer.Lts as lts
 use Rattle.calls.proofs.answer_first.Reads as answer-first-reads
 use Rattle.calls.proofs.answer_printing.Reads as answer-printing-reads
 use Rattle.calls.proofs.line_or_end.Reads as line-or-end-reads
-use Rattle.line_hear.proofs.type_of.Reads as type-of-reads
+use Rattle.line_decode.proofs.type_of.Reads as type-of-reads
 
 type-of-requires : tie.Need-type-of-requires
 type-of-requires c κs = search needs

@@ -8,7 +8,7 @@ use Rattle.calls.proofs.answer_first.Reads as reads
 use Rattle.calls.proofs.answer_first.Lts as lts
 use Rattle.call_answer.proofs.answer_line.Reads as answer-line-reads
 use Rattle.call_answer.proofs.tell_opened.Reads as tell-opened-reads
-use Rattle.line_hear.proofs.type_of.Reads as type-of-reads
+use Rattle.line_decode.proofs.type_of.Reads as type-of-reads
 use Rattle.line_print.proofs.write_refusal.Reads as write-refusal-reads
 use Rattle.table_rules.proofs.is_table.Reads as is-table-reads
 use Rattle.call_checked.proofs.open_line.Reads as open-line-reads

@@ -5,7 +5,7 @@ use Rattle.form_save.proofs.save_checked.Statement.{statement}
 use Rattle.form_save.proofs.save_checked.Tie as tie
 use Rattle.form_save.proofs.save_checked.Reads as reads
 use Rattle.form_save.proofs.save_checked.Lts as lts
-use Rattle.line_hear.proofs.printing.Reads as printing-reads
+use Rattle.line_decode.proofs.printing.Reads as printing-reads
 use Rattle.form_save.proofs.save_place.Reads as save-place-reads
 
 printing-requires : tie.Need-printing-requires

@@ -1,5 +1,5 @@
 -- `line_examples::reply` meets its contract.
-use Rattle.line_hear.proofs.Hearing.{heard-room}
+use Rattle.line_decode.proofs.Hearing.{heard-room}
 use Rattle.line_examples.proofs.Feeding.{group-heard}
 use borrow.Author.Needs.{needs}
 use Rattle.line_examples.proofs.reply.Statement.{statement}

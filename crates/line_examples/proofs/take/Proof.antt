@@ -1,5 +1,5 @@
 -- `line_examples::take` meets its contract.
-use Rattle.line_keep.proofs.Feeding.{have-within, taken-ended, taken-joined}
+use Rattle.line_decode.proofs.Feeding.{have-within, taken-ended, taken-joined}
 use Rattle.line_examples.proofs.Feeding.{group-ended, group-joined}
 use borrow.Author.Needs.{needs}
 use Rattle.line_examples.proofs.take.Statement.{statement}

@@ -1,5 +1,5 @@
 -- `replay::take` meets its contract.
-use Rattle.line_keep.proofs.Feeding.{taken-ended, taken-joined}
+use Rattle.line_decode.proofs.Feeding.{taken-ended, taken-joined}
 use Rattle.replay.proofs.Feeding.{held-ended, held-joined, kept-in, line-short, ready-ended, ready-joined}
 use borrow.Author.Needs.{needs}
 use Rattle.replay.proofs.take.Statement.{statement}

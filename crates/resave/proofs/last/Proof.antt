@@ -1,5 +1,5 @@
 use Rattle.resave.proofs.Feeding.{nothing-left, piece-left}
-use Rattle.line_keep.proofs.Feeding.{going-within}
+use Rattle.line_decode.proofs.Feeding.{going-within}
 use native.Mathlib.Omega.{arith}
 use borrow.Author.Needs.{needs}
 use Rattle.resave.proofs.last.Statement.{statement}

@@ -1,5 +1,5 @@
 use Rattle.resave.proofs.Feeding.{known-ended, known-joined}
-use Rattle.line_keep.proofs.Feeding.{have-within, taken-ended, taken-joined}
+use Rattle.line_decode.proofs.Feeding.{have-within, taken-ended, taken-joined}
 use native.Mathlib.Omega.{arith}
 use borrow.Author.Needs.{needs}
 use Rattle.resave.proofs.take.Statement.{statement}

@@ -5,7 +5,7 @@ use Rattle.settling.proofs.low_in.Statement.{statement}
 use Rattle.settling.proofs.low_in.Tie as tie
 use Rattle.settling.proofs.low_in.Reads as reads
 use Rattle.settling.proofs.low_in.Lts as lts
-use Rattle.settling_low.proofs.low_of.Reads as low-of-reads
+use Rattle.settling.proofs.low_of.Reads as low-of-reads
 
 add-end : tie.Need-add-end
 add-end c = search needs

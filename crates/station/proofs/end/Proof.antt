@@ -1,5 +1,5 @@
 -- `station::end` meets its contract.
-use Rattle.line_keep.proofs.Feeding.{going-within}
+use Rattle.line_decode.proofs.Feeding.{going-within}
 use Rattle.station.proofs.Feeding.{nothing-left, piece-left}
 use borrow.Author.Needs.{needs}
 use Rattle.station.proofs.end.Statement.{statement}

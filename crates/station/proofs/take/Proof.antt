@@ -1,5 +1,5 @@
 -- `station::take` meets its contract.
-use Rattle.line_keep.proofs.Feeding.{have-within, taken-ended, taken-joined}
+use Rattle.line_decode.proofs.Feeding.{have-within, taken-ended, taken-joined}
 use Rattle.station.proofs.Feeding.{held-ended, held-joined}
 use borrow.Author.Needs.{needs}
 use Rattle.station.proofs.take.Statement.{statement}

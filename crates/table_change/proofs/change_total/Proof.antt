@@ -5,7 +5,7 @@ use Rattle.table_change.proofs.change_total.Statement.{statement}
 use Rattle.table_change.proofs.change_total.Tie as tie
 use Rattle.table_change.proofs.change_total.Reads as reads
 use Rattle.table_change.proofs.change_total.Lts as lts
-use Rattle.table_totals.proofs.changed.Reads as changed-reads
+use Rattle.table_change.proofs.changed.Reads as changed-reads
 
 mul-at : tie.Need-mul-at
 mul-at c = search needs

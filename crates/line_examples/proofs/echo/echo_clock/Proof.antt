@@ -1,6 +1,6 @@
 -- `line_examples::echo::echo_clock` meets its contract.
 use Rattle.line_examples.proofs.Within.{clock-within}
-use Rattle.line_read_saved.proofs.Vectors.{clock-vector}
+use Rattle.line_read.proofs.Vectors.{clock-vector}
 use native.Mathlib.Omega.{arith}
 use borrow.Author.Needs.{needs}
 use Rattle.line_examples.proofs.echo.echo_clock.Statement.{statement}

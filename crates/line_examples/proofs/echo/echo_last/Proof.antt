@@ -1,6 +1,6 @@
 -- `line_examples::echo::echo_last` meets its contract.
 use Rattle.line_examples.proofs.Within.{last-within}
-use Rattle.line_read_saved.proofs.Vectors.{last-vector}
+use Rattle.line_read.proofs.Vectors.{last-vector}
 use native.Mathlib.Omega.{arith}
 use borrow.Author.Needs.{needs}
 use Rattle.line_examples.proofs.echo.echo_last.Statement.{statement}

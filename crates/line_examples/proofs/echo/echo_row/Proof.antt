@@ -1,6 +1,6 @@
 -- `line_examples::echo::echo_row` meets its contract.
 use Rattle.line_examples.proofs.Within.{row-within}
-use Rattle.line_read_saved.proofs.Vectors.{row-vector}
+use Rattle.line_read.proofs.Vectors.{row-vector}
 use native.Mathlib.Omega.{arith}
 use borrow.Author.Needs.{needs}
 use Rattle.line_examples.proofs.echo.echo_row.Statement.{statement}

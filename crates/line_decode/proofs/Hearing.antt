@@ -1,0 +1,90 @@
+-- What is heard of a line stands at the front of the buffer.
+use Prim.Native.Nat.{ℕ, _+_, _-_, _≤_}
+use mathlib.Core.Path.{_≡_, refl, sym, ap, ap₂, _∙_}
+use mathlib.Core.Bool.{Bool, true, false, false≢true}
+use mathlib.Core.List.{List, [], _∷_, _++_}
+use native.Mathlib.Omega.{arith}
+use lib.ListN.{length, take, drop, length-append}
+use lib.Seq.{take-at}
+use Rattle.meaning.proofs.Tests.{cases}
+use Rattle.line_hex.specs.Choice.{pick}
+use Rattle.line_hex.specs.Hex.{hexLine}
+use Rattle.line_hex.specs.Numbers.{AllBytes}
+use Rattle.line_hex.proofs.Spelling.{line-reads-back}
+use Rattle.line_hex.specs.Decoding.{decoded, isLine, lineType, pairs}
+use Rattle.line_hex.specs.declared.LineType.{LineType}
+use Rattle.line_hex.specs.declared.LineType.the-variants.{Is, Unknown}
+use Rattle.line_hex.specs.declared.Decoded.{Decoded}
+use Rattle.line_hex.specs.declared.Decoded.the-variants.{Bytes, Malformed}
+use Rattle.line_read.specs.declared.Opening.{Opening}
+use Rattle.line_read.specs.Named.{openingRead}
+use Rattle.line_decode.specs.Hearing.{byteOfType, bytesOf, heardIn, typeOf}
+
+abbrev bytesIn : Decoded → ℕ
+bytesIn (Bytes n) = n
+bytesIn Malformed = 0
+
+module _ (line buffer : List ℕ) (long : length buffer ≡ 261) where
+  count-of : (b : Bool) → bytesIn (pick b (Bytes (length (pairs 261 line))) Malformed) ≡ length (pick b (pairs 261 line) [])
+  count-of true = refl
+  count-of false = refl
+
+  heard-as : (r : Decoded) (x : List ℕ) → (r, x) ≡ decoded line buffer → (bytesIn r, x) ≡ heardIn line buffer
+  unfolding heardIn bytesOf decoded
+  heard-as r x e = ap₂ (λ (n : ℕ) (l : List ℕ). (n, l)) (ap (λ (p : Decoded × List ℕ). bytesIn (p .0)) e ∙ rw long (count-of (isLine 261 line))) (ap (λ (p : Decoded × List ℕ). p .1) e)
+
+  pub hears-line : (r : Decoded) (x : List ℕ) (n : ℕ) → (r, x) ≡ decoded line buffer → r ≡ Bytes n → (n, x) ≡ heardIn line buffer
+  hears-line r x n e f = ap (λ (k : ℕ). (k, x)) (sym (ap bytesIn f)) ∙ heard-as r x e
+
+  pub hears-none : (r : Decoded) (x : List ℕ) → (r, x) ≡ decoded line buffer → r ≡ Malformed → (0, x) ≡ heardIn line buffer
+  hears-none r x e f = ap (λ (k : ℕ). (k, x)) (sym (ap bytesIn f)) ∙ heard-as r x e
+
+  -- the front of the buffer
+  module _ (n : ℕ) (x : List ℕ) (e : (n, x) ≡ heardIn line buffer) where
+    count-is : n ≡ length (bytesOf line)
+    unfolding heardIn
+    count-is = ap (λ (p : ℕ × List ℕ). p .0) e
+
+    buffer-is : x ≡ pairs 261 line ++ drop (length (pairs 261 line)) buffer
+    unfolding heardIn decoded
+    buffer-is = ap (λ (p : ℕ × List ℕ). p .1) e ∙ rw long refl
+
+    pub heard-front : take (n - 0) x ≡ bytesOf line
+    unfolding bytesOf
+    heard-front =
+        let z : n - 0 ≡ n = omega arith in
+        rw (z, buffer-is) (cases (isLine 261 line)
+        (λ b. rw b (take-at (pairs 261 line) (drop (length (pairs 261 line)) buffer) n (sym (count-is ∙ rw b refl))))
+        (λ b. let m : n ≡ 0 = count-is ∙ rw b refl in rw (b, m) refl))
+
+    pub heard-room : n ≤ length x
+    unfolding bytesOf
+    heard-room = omega (arith, count-is, fewer (isLine 261 line), ap length buffer-is, length-append (pairs 261 line) (drop (length (pairs 261 line)) buffer))
+      where
+        fewer : (b : Bool) → length (pick b (pairs 261 line) []) ≤ length (pairs 261 line)
+        fewer true = omega arith
+        fewer false = omega arith
+
+-- so what is read there is what is read of the line's bytes
+pub reads-heard : {A : Type 0} (read : List ℕ → A) (line buffer : List ℕ) (n : ℕ) (x : List ℕ) (r : A) → length buffer ≡ 261 → (n, x) ≡ heardIn line buffer → r ≡ read (take (n - 0) x) → r ≡ read (bytesOf line)
+reads-heard read line buffer n x r long e f = f ∙ ap read (heard-front line buffer long n x e)
+
+pub opening-heard : (line buffer : List ℕ) (n : ℕ) (x : List ℕ) (r : Opening) → length buffer ≡ 261 → (n, x) ≡ heardIn line buffer → r ≡ openingRead (take (n - 0) x) → r .ok ≡ openingRead (bytesOf line) .ok
+opening-heard line buffer n x r long e f = ap (λ (o : Opening). o .ok) (reads-heard openingRead line buffer n x r long e f)
+
+-- the type of a line
+pub type-known : (line : List ℕ) (t : LineType) → t ≡ lineType line → (byte : ℕ) → t ≡ Is byte → byte ≡ typeOf line
+unfolding typeOf
+type-known line t e byte h = ap byteOfType (sym h ∙ e)
+
+pub type-unknown : (line : List ℕ) (t : LineType) → t ≡ lineType line → t ≡ Unknown → 0 ≡ typeOf line
+unfolding typeOf
+type-unknown line t e h = ap byteOfType (sym h ∙ e)
+
+-- what is heard of the one spelling of bytes is these bytes
+pub bytes-back : (bs buffer : List ℕ) → AllBytes bs → length buffer ≡ 261 → length bs ≤ 261 → bytesOf (hexLine bs) ≡ bs
+bytes-back bs buffer h long few =
+    let whole = bs ++ drop (length bs) buffer in
+    let none : length bs - 0 ≡ length bs = omega arith in
+    sym (heard-front (hexLine bs) buffer long (length bs) whole (hears-line (hexLine bs) buffer long (Bytes (length bs)) whole (length bs) (sym (line-reads-back bs buffer h (omega (arith, long)))) refl))
+    ∙ rw none (take-at bs (drop (length bs) buffer) (length bs) refl)

@@ -1,0 +1,3 @@
+pub mod Hearing
+pub mod Text
+pub mod Feeding

@@ -1,0 +1,82 @@
+// Lines as the calls hear them: characters read to bytes, and the bytes taken apart; what is no line is heard as no bytes, which have no shape.
+// Lines kept a character at a time, however the input is cut. This crate has no functions: its definitions are in specs/, its laws in proofs/.
+ghost use mathlib.Core.Path.{_≡_};
+ghost use Rattle.line_hex.specs.Decoding.{decoded};
+ghost use Rattle.line_read.specs.Named.{issueRead, openingRead, operationRead, printingRead, questionRead, settlingRead};
+ghost use Rattle.line_decode.specs.Hearing.{bytesOf, heardIn, typeOf};
+use line_hex::Decoded;
+use line_hex::LineType;
+
+// A line that is not of a type: no type's byte.
+const NO_TYPE: u8 = 0;
+
+// Reads a line into a buffer; how many bytes it has, and none where it is no line.
+pub fn hear(line: &[u8], into: &mut [u8; line_read::LONGEST]) -> usize
+    ensures { λ r. ⌜ (r, now (into .exit)) ≡ heardIn (now (line .entry)) (now (into .entry)) ⌝ }
+{
+    match line_hex::decode(line, into) {
+        Decoded::Bytes(n) => n,
+        Decoded::Malformed => 0,
+    }
+}
+
+// Whether a line is an opening in its right shape.
+pub fn is_opening(line: &[u8]) -> bool
+    ensures { λ r. ⌜ r ≡ openingRead (bytesOf (now (line .entry))) .ok ⌝ }
+{
+    let mut bytes = [0u8; line_read::LONGEST];
+    let n = hear(line, &mut bytes);
+    let asked = line_read::read_opening(&bytes[0..n]);
+    asked.ok
+}
+
+pub fn operation(line: &[u8]) -> line_read::Operation
+    ensures { λ r. ⌜ r ≡ operationRead (bytesOf (now (line .entry))) ⌝ }
+{
+    let mut bytes = [0u8; line_read::LONGEST];
+    let n = hear(line, &mut bytes);
+    line_read::read_operation(&bytes[0..n])
+}
+
+pub fn issue(line: &[u8]) -> line_read::Issue
+    ensures { λ r. ⌜ r ≡ issueRead (bytesOf (now (line .entry))) ⌝ }
+{
+    let mut bytes = [0u8; line_read::LONGEST];
+    let n = hear(line, &mut bytes);
+    line_read::read_issue(&bytes[0..n])
+}
+
+pub fn settling(line: &[u8]) -> line_read::Settling
+    ensures { λ r. ⌜ r ≡ settlingRead (bytesOf (now (line .entry))) ⌝ }
+{
+    let mut bytes = [0u8; line_read::LONGEST];
+    let n = hear(line, &mut bytes);
+    line_read::read_settling(&bytes[0..n])
+}
+
+pub fn question(line: &[u8]) -> line_read::Question
+    ensures { λ r. ⌜ r ≡ questionRead (bytesOf (now (line .entry))) ⌝ }
+{
+    let mut bytes = [0u8; line_read::LONGEST];
+    let n = hear(line, &mut bytes);
+    line_read::read_question(&bytes[0..n])
+}
+
+pub fn printing(line: &[u8]) -> bool
+    ensures { λ r. ⌜ r ≡ printingRead (bytesOf (now (line .entry))) ⌝ }
+{
+    let mut bytes = [0u8; line_read::LONGEST];
+    let n = hear(line, &mut bytes);
+    line_read::read_printing(&bytes[0..n])
+}
+
+// The type of a line, malformed ones included.
+pub fn type_of(line: &[u8]) -> u8
+    ensures { λ r. ⌜ r ≡ typeOf (now (line .entry)) ⌝ }
+{
+    match line_hex::line_type(line) {
+        LineType::Is(byte) => byte,
+        LineType::Unknown => NO_TYPE,
+    }
+}
+

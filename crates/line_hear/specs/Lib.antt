@@ -1,2 +1,0 @@
-pub mod Hearing
-pub mod Text

@@ -1,3 +1,0 @@
-pub mod Keeping
-pub mod Said
-pub mod Feeding

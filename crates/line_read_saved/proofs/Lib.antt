@@ -1,2 +1,0 @@
-pub mod Vectors
-pub mod Named
