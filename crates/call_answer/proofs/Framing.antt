@@ -32,13 +32,13 @@ use Rattle.line_put.proofs.Whole.{length-hex-line}
 use Rattle.line_read.specs.Types.{refused, operation, headOf}
 use Rattle.line_read.specs.Named.{issueRead}
 use Rattle.line_print.specs.Printed.{printed}
-use Rattle.line_decode.specs.Hearing.{bytesOf}
-use Rattle.call_question.specs.Telling.{refusalBytes}
+use Rattle.line_decode.specs.Decoding.{bytesOf}
+use Rattle.call_question.specs.AnswerBytes.{refusalBytes}
 use Rattle.call_question.proofs.Short.{refusal-long}
 use Rattle.call_checked.specs.declared.Issued.{Issued}
 use Rattle.call_checked.specs.declared.Issued.the-variants as issued
-use Rattle.call_checked.specs.Spoken.{frameBytes, framedAs, issuedAs, issuedOn, localOf}
-use Rattle.call_answer.specs.Answering.{issueAnswer, issuedBytes, toldAfter}
+use Rattle.call_checked.specs.Called.{frameBytes, framedAs, issuedAs, issuedOn, localOf}
+use Rattle.call_answer.specs.Answering.{issueAnswer, issuedBytes, answeredAfter}
 
 take-most : (n : ℕ) (l : List ℕ) → length (take n l) ≤ n
 take-most zero l = omega arith
@@ -125,8 +125,8 @@ module _ (words line out : List ℕ) (K : Checked words) (room : 149 ≤ length 
   fit : Fit (r, (x, y)) (issueAnswer line words) lent
   fit = subst (λ (p : Issued × (List ℕ × List ℕ)). Fit p (issueAnswer line words) lent) (sym e) (issue-fit words lent (rw (lent-is, length-drop 2 out) (omega arith)) K line)
 
-  pub issue-refused : (number : ℕ) → r ≡ issued.Refused number → (w : Written) (z : List ℕ) → (w, z) ≡ printed (take 2 out ++ (y ++ drop (length out - 2) (drop 2 out))) refused (number ∷ []) [] → (w, (x, z)) ≡ toldAfter out (issueAnswer line words)
-  unfolding toldAfter printed refusalBytes
+  pub issue-refused : (number : ℕ) → r ≡ issued.Refused number → (w : Written) (z : List ℕ) → (w, z) ≡ printed (take 2 out ++ (y ++ drop (length out - 2) (drop 2 out))) refused (number ∷ []) [] → (w, (x, z)) ≡ answeredAfter out (issueAnswer line words)
+  unfolding answeredAfter printed refusalBytes
   issue-refused number h w z p =
       let f = subst (λ (q : Issued). Fit (q, (x, y)) (issueAnswer line words) lent) h fit in
       let same : take 2 out ++ (y ++ drop (length out - 2) (drop 2 out)) ≡ out = rw (f .1 .1, take-append-drop (length out - 2) (drop 2 out)) (take-append-drop 2 out) in
@@ -151,8 +151,8 @@ module _ (words line out : List ℕ) (K : Checked words) (room : 149 ≤ length 
         let whole : drop 2 (take 2 out ++ (y ++ drop (length out - 2) (drop 2 out))) ≡ y = drop-at (take 2 out) (y ++ drop (length out - 2) (drop 2 out)) 2 (length-take-le 2 out (omega arith)) ∙ rw none (append-nil y) in
         ap (λ (q : ℕ × List ℕ). q .1) g ∙ ap (λ (l : List ℕ). 48 ∷ 48 ∷ l) whole
 
-    pub issue-framed : (written-as.Characters (p + n), (x, z)) ≡ toldAfter out (issueAnswer line words)
-    unfolding toldAfter lineWritten
+    pub issue-framed : (written-as.Characters (p + n), (x, z)) ≡ answeredAfter out (issueAnswer line words)
+    unfolding answeredAfter lineWritten
     issue-framed =
         let size : p + n ≡ length (hexLine bytes) = omega (arith, two, framed .0) in
         let fits : leb (length (hexLine bytes)) (length out) ≡ true = le-leb (length (hexLine bytes)) (length out) (omega (arith, framed .0, framed .1 .0)) in

@@ -14,8 +14,8 @@ use Rattle.line_read.specs.declared.Question.{Question}
 use Rattle.line_read.specs.Types.{count, done, refused}
 use Rattle.line_read.specs.Named.{openingRead, questionRead}
 use Rattle.line_print.specs.Printed.{printed}
-use Rattle.line_decode.specs.Hearing.{bytesOf}
-use Rattle.call_question.specs.Telling.{refusalBytes, replyBytes}
+use Rattle.line_decode.specs.Decoding.{bytesOf}
+use Rattle.call_question.specs.AnswerBytes.{refusalBytes, replyBytes}
 use Rattle.call_checked.specs.declared.Opened.{Opened}
 use Rattle.call_checked.specs.declared.Opened.the-variants as opened
 use Rattle.call_checked.specs.declared.Received.{Received}

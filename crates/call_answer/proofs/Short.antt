@@ -15,8 +15,8 @@ use Rattle.line_shape.specs.Shapes.{lengthOf}
 use Rattle.line_read.specs.Types.{count, done}
 use Rattle.line_read.specs.Named.{issueRead, openingRead, questionRead}
 use Rattle.line_read.proofs.Lengths.{line-length}
-use Rattle.line_decode.specs.Hearing.{bytesOf}
-use Rattle.call_question.specs.Telling.{refusalBytes, replyBytes}
+use Rattle.line_decode.specs.Decoding.{bytesOf}
+use Rattle.call_question.specs.AnswerBytes.{refusalBytes, replyBytes}
 use Rattle.call_question.proofs.Short.{refusal-long, reply-short}
 use Rattle.call_checked.specs.declared.Opened.{Opened}
 use Rattle.call_checked.specs.declared.Opened.the-variants as opened
@@ -26,7 +26,7 @@ use Rattle.call_checked.specs.declared.Received.{Received}
 use Rattle.call_checked.specs.declared.Received.the-variants as received
 use Rattle.call_checked.specs.declared.Settled.{Settled}
 use Rattle.call_checked.specs.declared.Settled.the-variants as settled
-use Rattle.call_checked.specs.Spoken.{receivedOn, settledOn}
+use Rattle.call_checked.specs.Called.{receivedOn, settledOn}
 use Rattle.call_answer.specs.Answering.{answerOn, doneBytes, issueAnswer, openedBytes, questionAnswer, receivedBytes, secondOpening, settledBytes}
 use Rattle.call_answer.proofs.Framing.{issue-short}
 

@@ -11,15 +11,15 @@ use Rattle.line_put.specs.Writing.{lineWritten}
 use Rattle.line_put.specs.declared.Written.{Written}
 use Rattle.line_read.specs.Types.{Line, count, done, issue, lineOf, opening, operation, question, settling}
 use Rattle.line_read.specs.Named.{issueRead, openingRead, questionRead}
-use Rattle.line_decode.specs.Hearing.{bytesOf}
-use Rattle.call_question.specs.Telling.{refusalBytes, replyBytes}
+use Rattle.line_decode.specs.Decoding.{bytesOf}
+use Rattle.call_question.specs.AnswerBytes.{refusalBytes, replyBytes}
 use Rattle.call_checked.specs.declared.Opened.{Opened}
 use Rattle.call_checked.specs.declared.Opened.the-variants as opened
 use Rattle.call_checked.specs.declared.Received.{Received}
 use Rattle.call_checked.specs.declared.Received.the-variants as received
 use Rattle.call_checked.specs.declared.Settled.{Settled}
 use Rattle.call_checked.specs.declared.Settled.the-variants as settled
-use Rattle.call_checked.specs.Spoken.{frameBytes, localOf, receivedOn, settledOn}
+use Rattle.call_checked.specs.Called.{frameBytes, localOf, receivedOn, settledOn}
 
 -- "An answer line is `00` and the result": "opening and operation none".
 unfoldable pub doneBytes : List ℕ
@@ -77,8 +77,8 @@ answerOn type line words =
     (isType type opening (secondOpening line, words) (refusalBytes 1, words)))))
 
 -- The answer's line in a space for it, and the table space.
-unfoldable pub toldAfter : List ℕ → List ℕ × List ℕ → Written × (List ℕ × List ℕ)
-toldAfter out (bytes, words) = (lineWritten out bytes .0, (words, lineWritten out bytes .1))
+unfoldable pub answeredAfter : List ℕ → List ℕ × List ℕ → Written × (List ℕ × List ℕ)
+answeredAfter out (bytes, words) = (lineWritten out bytes .0, (words, lineWritten out bytes .1))
 
 -- The characters of the longest frame's line behind `00`: 9 bytes and 16 entries.
 abbrev pub frameRoom : ℕ

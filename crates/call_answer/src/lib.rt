@@ -4,7 +4,7 @@ ghost use Prim.Native.Nat.{_≤_};
 ghost use lib.ListN.{length};
 ghost use Rattle.table_rules.specs.Checked.{Checked};
 ghost use Rattle.line_put.specs.Writing.{lineWritten};
-ghost use Rattle.call_answer.specs.Answering.{answerOn, frameRoom, issueAnswer, openedBytes, questionAnswer, receivedBytes, secondOpening, settledBytes, toldAfter};
+ghost use Rattle.call_answer.specs.Answering.{answerOn, frameRoom, issueAnswer, openedBytes, questionAnswer, receivedBytes, secondOpening, settledBytes, answeredAfter};
 use call_checked::Issued;
 use call_checked::Opened;
 use call_checked::Received;
@@ -20,7 +20,7 @@ const CHARACTERS: usize = 2;
 const ONE: usize = 1;
 
 // The answer to an opening.
-pub fn tell_opened(r: Opened, out: &mut [u8]) -> Written
+pub fn answer_opened(r: Opened, out: &mut [u8]) -> Written
     ensures { λ w. ⌜ (w, now (out .exit)) ≡ lineWritten (now (out .entry)) (openedBytes r) ⌝ }
 {
     match r {
@@ -30,7 +30,7 @@ pub fn tell_opened(r: Opened, out: &mut [u8]) -> Written
 }
 
 // The answer to a frame.
-fn tell_received(r: Received, out: &mut [u8]) -> Written
+fn answer_received(r: Received, out: &mut [u8]) -> Written
     ensures { λ w. ⌜ (w, now (out .exit)) ≡ lineWritten (now (out .entry)) (receivedBytes r) ⌝ }
 {
     match r {
@@ -40,7 +40,7 @@ fn tell_received(r: Received, out: &mut [u8]) -> Written
 }
 
 // The answer to a settling line.
-fn tell_settled(r: Settled, out: &mut [u8]) -> Written
+fn answer_settled(r: Settled, out: &mut [u8]) -> Written
     ensures { λ w. ⌜ (w, now (out .exit)) ≡ lineWritten (now (out .entry)) (settledBytes r) ⌝ }
 {
     match r {
@@ -52,7 +52,7 @@ fn tell_settled(r: Settled, out: &mut [u8]) -> Written
 // The answer to a local operation: its frame's line goes behind the place of `00`.
 fn answer_issue(space: &mut [u32], line: &[u8], out: &mut [u8]) -> Written
     requires { ⌜ Checked (now space) × (frameRoom ≤ length (now out)) ⌝ }
-    ensures { λ w. ⌜ (w, (now (space .exit), now (out .exit))) ≡ toldAfter (now (out .entry)) (issueAnswer (now (line .entry)) (now (space .entry))) ⌝ }
+    ensures { λ w. ⌜ (w, (now (space .exit), now (out .exit))) ≡ answeredAfter (now (out .entry)) (issueAnswer (now (line .entry)) (now (space .entry))) ⌝ }
 {
     match call_checked::issue_line(space, line, &mut out[CHARACTERS..]) {
         Issued::Refused(number) => line_print::write_refusal(out, number),
@@ -70,7 +70,7 @@ fn answer_question(space: &[u32], line: &[u8], out: &mut [u8]) -> Written
 {
     let asked = line_decode::question(line);
     if asked.ok {
-        return call_question::tell(space, asked.object, asked.question, asked.value, out);
+        return call_question::answer_question(space, asked.object, asked.question, asked.value, out);
     }
     line_print::write_refusal(out, call_checked::MISSHAPEN)
 }
@@ -88,16 +88,16 @@ fn answer_opening(line: &[u8], out: &mut [u8]) -> Written
 // The answer to a line of this type.
 pub fn answer_line(space: &mut [u32], line: &[u8], kind: u8, out: &mut [u8]) -> Written
     requires { ⌜ Checked (now space) × (frameRoom ≤ length (now out)) ⌝ }
-    ensures { λ w. ⌜ (w, (now (space .exit), now (out .exit))) ≡ toldAfter (now (out .entry)) (answerOn kind (now (line .entry)) (now (space .entry))) ⌝ }
+    ensures { λ w. ⌜ (w, (now (space .exit), now (out .exit))) ≡ answeredAfter (now (out .entry)) (answerOn kind (now (line .entry)) (now (space .entry))) ⌝ }
 {
     if kind == line_read::OPERATION {
-        return tell_received(call_checked::receive_line(space, line), out);
+        return answer_received(call_checked::receive_line(space, line), out);
     }
     if kind == line_read::ISSUE {
         return answer_issue(space, line, out);
     }
     if kind == line_read::SETTLING {
-        return tell_settled(call_checked::settle_line(space, line), out);
+        return answer_settled(call_checked::settle_line(space, line), out);
     }
     if kind == line_read::QUESTION {
         return answer_question(space, line, out);

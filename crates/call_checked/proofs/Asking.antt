@@ -12,8 +12,8 @@ use Rattle.question.specs.declared.Reply.the-variants as reply
 use Rattle.question.specs.Replies.{replied}
 use Rattle.line_read.specs.declared.Question.{Question}
 use Rattle.line_read.specs.Named.{questionRead}
-use Rattle.line_decode.specs.Hearing.{bytesOf}
-use Rattle.call_checked.specs.Spoken.{repliedOn}
+use Rattle.line_decode.specs.Decoding.{bytesOf}
+use Rattle.call_checked.specs.Called.{repliedOn}
 
 module _ (line words out : List ℕ) (asked : Question) (a : asked ≡ questionRead (bytesOf line)) where
   ok-is : (c : Bool) → asked .ok ≡ c → questionRead (bytesOf line) .ok ≡ c

@@ -27,10 +27,10 @@ use Rattle.line_read.specs.declared.Issue.{Issue}
 use Rattle.line_read.specs.Types.{lineOf, operation}
 use Rattle.line_read.specs.Named.{issueRead}
 use Rattle.line_print.specs.Printed.{printed}
-use Rattle.line_decode.specs.Hearing.{bytesOf}
+use Rattle.line_decode.specs.Decoding.{bytesOf}
 use Rattle.call_checked.specs.declared.Issued.{Issued}
 use Rattle.call_checked.specs.declared.Issued.the-variants as issued
-use Rattle.call_checked.specs.Spoken.{localOf, frameBytes, framedAs, issuedAs, issuedOn}
+use Rattle.call_checked.specs.Called.{localOf, frameBytes, framedAs, issuedAs, issuedOn}
 use Rattle.call_checked.proofs.Receiving.{picked}
 
 -- a space that is too short stays

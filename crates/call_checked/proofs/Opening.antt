@@ -17,11 +17,11 @@ use Rattle.table_ranges.specs.Headers.{headerOf}
 use Rattle.line_read.specs.declared.Opening.{Opening}
 use Rattle.line_read.specs.Named.{openingRead}
 use Rattle.line_read.proofs.Longest.{opening-size}
-use Rattle.line_decode.specs.Hearing.{bytesOf, heardIn}
-use Rattle.line_decode.proofs.Hearing.{heard-front, heard-room}
+use Rattle.line_decode.specs.Decoding.{bytesOf, decodedInto}
+use Rattle.line_decode.proofs.Decoding.{heard-front, heard-room}
 use Rattle.call_checked.specs.declared.Opened.{Opened}
 use Rattle.call_checked.specs.declared.Opened.the-variants as called
-use Rattle.call_checked.specs.Spoken.{openedAs, headerRead, openedBy}
+use Rattle.call_checked.specs.Called.{openedAs, headerRead, openedBy}
 
 module _ (words : List ℕ) (needed : ℕ) (header : Header) (refusal : ℕ) (e : refusal ≡ firstOf (openingRefusals (length words) needed header)) where
   pub open-refused : (refusal ≡ 0 → ⊥) → (called.Refused refusal, words) ≡ openedAs words (meaning.openTable (length words) needed header)
@@ -49,7 +49,7 @@ module _ (words : List ℕ) (needed : ℕ) (header : Header) (refusal : ℕ) (e 
   open-fresh z x f = ap (λ (l : List ℕ). (called.Fresh, l)) f ∙ sym (ap (openedAs words) (open-taken z))
 
 -- the line
-module _ (line buffer : List ℕ) (long : length buffer ≡ 261) (n : ℕ) (x : List ℕ) (h : (n, x) ≡ heardIn line buffer) (asked : Opening) (a : asked ≡ openingRead (take (n - 0) x)) where
+module _ (line buffer : List ℕ) (long : length buffer ≡ 261) (n : ℕ) (x : List ℕ) (h : (n, x) ≡ decodedInto line buffer) (asked : Opening) (a : asked ≡ openingRead (take (n - 0) x)) where
   asked-is : asked ≡ openingRead (bytesOf line)
   asked-is = a ∙ ap openingRead (heard-front line buffer long n x h)
 
@@ -57,7 +57,7 @@ module _ (line buffer : List ℕ) (long : length buffer ≡ 261) (n : ℕ) (x : 
   ok-is b f = sym (ap (λ (o : Opening). o .ok) asked-is) ∙ f
 
   count-is : n ≡ length (bytesOf line)
-  unfolding heardIn
+  unfolding decodedInto
   count-is = ap (λ (p : ℕ × List ℕ). p .0) h
 
   pub kinds-start : asked .ok ≡ true → 6 ≤ n

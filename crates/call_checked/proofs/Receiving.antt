@@ -22,10 +22,10 @@ use Rattle.line_hex.specs.Choice.{pick}
 use Rattle.line_read.specs.declared.Operation.{Operation}
 use Rattle.line_read.specs.Named.{operationRead}
 use Rattle.line_read.proofs.Named.{operation-stations-few, operation-vector-length}
-use Rattle.line_decode.specs.Hearing.{bytesOf}
+use Rattle.line_decode.specs.Decoding.{bytesOf}
 use Rattle.call_checked.specs.declared.Received.{Received}
 use Rattle.call_checked.specs.declared.Received.the-variants as received
-use Rattle.call_checked.specs.Spoken.{frameOf, receivedAs, receivedOn}
+use Rattle.call_checked.specs.Called.{frameOf, receivedAs, receivedOn}
 
 -- the first of two where the test holds
 pub picked : {A : Type 0} (b : Bool) (x y : A) → b ≡ true → pick b x y ≡ x

@@ -24,10 +24,10 @@ use Rattle.line_shape.specs.Shapes.{read, lengthOf}
 use Rattle.line_read.specs.declared.Settling.{Settling}
 use Rattle.line_read.specs.Types.{lineRead}
 use Rattle.line_read.specs.Named.{settlingRead}
-use Rattle.line_decode.specs.Hearing.{bytesOf}
+use Rattle.line_decode.specs.Decoding.{bytesOf}
 use Rattle.call_checked.specs.declared.Settled.{Settled}
 use Rattle.call_checked.specs.declared.Settled.the-variants as settled
-use Rattle.call_checked.specs.Spoken.{settledAs, settledOn}
+use Rattle.call_checked.specs.Called.{settledAs, settledOn}
 
 -- what is heard is bytes
 pub heard-bytes : (line : List ℕ) → AllBytes (bytesOf line)

@@ -6,7 +6,7 @@ ghost use Rattle.meaning.specs.Calls.{issue, openTable, receive};
 ghost use Rattle.words_layout.specs.Layout.{spaceFor, tableOf};
 ghost use Rattle.table_rules.specs.Checked.{Checked};
 ghost use Rattle.table_ranges.specs.Headers.{headerOf};
-ghost use Rattle.call_checked.specs.Spoken.{frameOf, issuedAs, issuedOn, localOf, openedAs, openedBy, receivedAs, receivedOn, repliedOn, settledOn};
+ghost use Rattle.call_checked.specs.Called.{frameOf, issuedAs, issuedOn, localOf, openedAs, openedBy, receivedAs, receivedOn, repliedOn, settledOn};
 use question::Reply;
 use refusal_order::Header;
 use refusal_order::Sent;
@@ -68,7 +68,7 @@ pub fn open_line(space: &mut [u32], line: &[u8]) -> Opened
     ensures { λ r. ⌜ (r, now (space .exit)) ≡ openedBy (now (line .entry)) (now (space .entry)) ⌝ }
 {
     let mut bytes = [0u8; line_read::LONGEST];
-    let n = line_decode::hear(line, &mut bytes);
+    let n = line_decode::decode_line(line, &mut bytes);
     let asked = line_read::read_opening(&bytes[0..n]);
     if asked.ok {
         return open_with(space, asked, &bytes[line_read::KINDS_PLACE..n]);

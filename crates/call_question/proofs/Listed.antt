@@ -20,7 +20,7 @@ use Rattle.line_read.proofs.Known.{known}
 use Rattle.line_put.specs.Writing.{lineBytes, lineWritten, Writable, writtenEach}
 use Rattle.line_put.specs.declared.Written.the-variants.{Characters, TooShort}
 use Rattle.line_put.proofs.Whole.{write-short, write-room, write-end, write-done}
-use Rattle.call_question.specs.Telling.{listBytes}
+use Rattle.call_question.specs.AnswerBytes.{listBytes}
 use Rattle.call_question.proofs.Values.{listed}
 
 -- no row shows more than one value

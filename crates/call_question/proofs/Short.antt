@@ -17,7 +17,7 @@ use Rattle.table_rules.specs.Checked.{Checked}
 use Rattle.line_shape.specs.Shapes.{lengthOf}
 use Rattle.line_read.specs.Types.{count, flag, refused, sum}
 use Rattle.line_read.proofs.Lengths.{line-length}
-use Rattle.call_question.specs.Telling.{listBytes, refusalBytes, replyBytes}
+use Rattle.call_question.specs.AnswerBytes.{listBytes, refusalBytes, replyBytes}
 use Rattle.call_question.proofs.Listed.{values-few}
 use Rattle.call_question.proofs.Told.{answer, chain}
 

@@ -26,7 +26,7 @@ use Rattle.line_read.specs.Types.{count, flag, lineOf, refused, sum}
 use Rattle.line_print.specs.Printed.{printed}
 use Rattle.line_put.specs.Writing.{lineWritten}
 use Rattle.line_put.specs.declared.Written.{Written}
-use Rattle.call_question.specs.Telling.{listBytes, refusalBytes, replyBytes}
+use Rattle.call_question.specs.AnswerBytes.{listBytes, refusalBytes, replyBytes}
 use Rattle.call_question.proofs.Values.{listed}
 use Rattle.call_question.proofs.Listed.{values-few}
 

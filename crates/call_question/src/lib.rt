@@ -11,7 +11,7 @@ ghost use Rattle.refusal_kind.specs.Asking.{askedFrom};
 ghost use Rattle.table_rules.specs.Checked.{Checked};
 ghost use Rattle.line_hex.specs.Putting.{putAt};
 ghost use Rattle.line_put.specs.Writing.{lineWritten, writtenEach};
-ghost use Rattle.call_question.specs.Telling.{listBytes, replyBytes};
+ghost use Rattle.call_question.specs.AnswerBytes.{listBytes, replyBytes};
 use question::Reply;
 use line_shape::FOUR;
 use words_tags::RowCount;
@@ -66,7 +66,7 @@ fn write_list(s: &[u32], object: u32, count: RowCount, out: &mut [u8]) -> Writte
 }
 
 // Writes the answer to a question. It is asked with no room for a list: 11 then brings the count with which the list is written.
-pub fn tell(s: &[u32], object: u32, question: u32, value: u32, out: &mut [u8]) -> Written
+pub fn answer_question(s: &[u32], object: u32, question: u32, value: u32, out: &mut [u8]) -> Written
     requires { ⌜ Checked (now s) ⌝ }
     ensures { λ r. ⌜ (r, now (out .exit)) ≡ lineWritten (now (out .entry)) (replyBytes (ask (tableOf (now (s .entry))) greatestCapacity (askedFrom object question value))) ⌝ }
 {

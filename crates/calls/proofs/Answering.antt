@@ -24,7 +24,7 @@ use Rattle.line_put.proofs.Whole.{length-hex-line}
 use Rattle.line_read.specs.Types.{isOf, refused}
 use Rattle.line_read.specs.Named.{printingRead}
 use Rattle.line_print.specs.Printed.{printed}
-use Rattle.call_question.specs.Telling.{refusalBytes}
+use Rattle.call_question.specs.AnswerBytes.{refusalBytes}
 use Rattle.call_question.proofs.Short.{refusal-long}
 use Rattle.form_write.specs.Forms.{formedOf, lineAt, lineInto, savedForm}
 use Rattle.form_write.proofs.Short.{Short, form-short}
@@ -32,31 +32,31 @@ use Rattle.form_save.specs.Saving.{savedAs, savedBy, savedOn}
 use Rattle.form_save.specs.declared.Saved.{Saved}
 use Rattle.form_save.specs.declared.Saved.the-variants as saved
 use Rattle.call_checked.specs.declared.Opened.{Opened}
-use Rattle.call_checked.specs.Spoken.{openedBy}
-use Rattle.call_answer.specs.Answering.{answerOn, openedBytes, toldAfter}
+use Rattle.call_checked.specs.Called.{openedBy}
+use Rattle.call_answer.specs.Answering.{answerOn, openedBytes, answeredAfter}
 use Rattle.call_answer.proofs.Choosing.{told}
 use Rattle.call_answer.proofs.Short.{answer-short, opened-short, refusal-short}
-use Rattle.line_decode.specs.Hearing.{byteOfType, bytesOf, typeOf}
+use Rattle.line_decode.specs.Decoding.{byteOfType, bytesOf, typeOf}
 use Rattle.calls.specs.declared.Answered.{Answered}
 use Rattle.calls.specs.declared.Answered.the-variants as answered
 use Rattle.calls.specs.Answers.{answeredBy, answerOf, linesFor, printedAt, spaceAfter}
-use Rattle.calls.specs.Told.{lineOrEnd}
+use Rattle.calls.specs.LineOrEnd.{lineOrEnd}
 
 -- on a table, and before an accepted opening
 module _ (line words out : List ℕ) (kind : ℕ) (k : kind ≡ typeOf line) (b : Bool) (e : b ≡ holdsTable words) where
-  pub first-on : b ≡ true → (w : Written) (x y : List ℕ) → (w, (x, y)) ≡ toldAfter out (answerOn kind line words) → (w, (x, y)) ≡ toldAfter out (answerOf line words)
+  pub first-on : b ≡ true → (w : Written) (x y : List ℕ) → (w, (x, y)) ≡ answeredAfter out (answerOn kind line words) → (w, (x, y)) ≡ answeredAfter out (answerOf line words)
   unfolding answerOf
-  first-on t w x y p = p ∙ ap (toldAfter out) (rw (sym e ∙ t, k) refl)
+  first-on t w x y p = p ∙ ap (answeredAfter out) (rw (sym e ∙ t, k) refl)
 
   module _ (f : b ≡ false) where
     before : pick (eqb kind 16) (openedBytes (openedBy line words .0), openedBy line words .1) (refusalBytes 14, words) ≡ answerOf line words
     unfolding answerOf
     before = rw (sym e ∙ f, k) refl
 
-    pub first-opens : kind ≡ 16 → (r : Opened) (x : List ℕ) → (r, x) ≡ openedBy line words → (w : Written) (y : List ℕ) → (w, y) ≡ lineWritten out (openedBytes r) → (w, (x, y)) ≡ toldAfter out (answerOf line words)
+    pub first-opens : kind ≡ 16 → (r : Opened) (x : List ℕ) → (r, x) ≡ openedBy line words → (w : Written) (y : List ℕ) → (w, y) ≡ lineWritten out (openedBytes r) → (w, (x, y)) ≡ answeredAfter out (answerOf line words)
     first-opens z r x g w y p = told out (openedBytes r) x (answerOf line words) (sym before ∙ rw z (ap (λ (q : Opened × List ℕ). (openedBytes (q .0), q .1)) (sym g))) w y x p refl
 
-    pub first-none : (kind ≡ 16 → ⊥) → (w : Written) (y : List ℕ) → (w, y) ≡ printed out refused (14 ∷ []) [] → (w, (words, y)) ≡ toldAfter out (answerOf line words)
+    pub first-none : (kind ≡ 16 → ⊥) → (w : Written) (y : List ℕ) → (w, y) ≡ printed out refused (14 ∷ []) [] → (w, (words, y)) ≡ answeredAfter out (answerOf line words)
     unfolding printed refusalBytes
     first-none n w y p = told out (refusalBytes 14) words (answerOf line words) (sym before ∙ rw (ne-eqb kind 16 n) refl) w y words p refl
 
@@ -220,8 +220,8 @@ module _ (line words out : List ℕ) (kind : ℕ) (e : kind ≡ typeOf line) whe
     unfolding answeredBy spaceAfter
     answer-ended k h = rw (one-line, ne-eqb k 0 h) (ap (λ (q : Answered × List ℕ). (q .0, (words, q .1))) (only-later (answerOf line words .0) out k (omega (arith, h))))
 
-    pub answer-lined : (k : ℕ) → k ≡ 0 → length out ≡ 4103 → (w : Written) (x y : List ℕ) → (w, (x, y)) ≡ toldAfter out (answerOf line words) → (r : Answered) → r ≡ lineOrEnd w → (r, (x, y)) ≡ answeredBy line k words out
-    unfolding answeredBy spaceAfter toldAfter
+    pub answer-lined : (k : ℕ) → k ≡ 0 → length out ≡ 4103 → (w : Written) (x y : List ℕ) → (w, (x, y)) ≡ answeredAfter out (answerOf line words) → (r : Answered) → r ≡ lineOrEnd w → (r, (x, y)) ≡ answeredBy line k words out
+    unfolding answeredBy spaceAfter answeredAfter
     answer-lined k zero-th long w x y p r f =
         let bytes = answerOf line words .0 in
         let line-is : _≡_ {A = Written × List ℕ} (w, y) (lineWritten out bytes) = ap (λ (q : Written × (List ℕ × List ℕ)). (q .0, q .1 .1)) p in

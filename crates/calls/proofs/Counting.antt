@@ -9,7 +9,7 @@ use Rattle.words_layout.specs.Layout.{holdsTable, tableOf}
 use Rattle.table_rules.proofs.Checking.{checked}
 use Rattle.line_hex.specs.Choice.{pick}
 use Rattle.line_read.specs.Named.{printingRead}
-use Rattle.line_decode.specs.Hearing.{bytesOf}
+use Rattle.line_decode.specs.Decoding.{bytesOf}
 use Rattle.form_write.specs.Forms.{savedForm}
 use Rattle.form_write.proofs.Count.{form-count}
 use Rattle.calls.specs.Answers.{answerOf, linesFor}

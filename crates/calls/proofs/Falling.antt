@@ -17,10 +17,10 @@ use Rattle.table_rules.proofs.Checking.{checked}
 use Rattle.arrival.proofs.Kept.{table-back}
 use Rattle.line_hex.specs.Choice.{pick}
 use Rattle.line_read.specs.Named.{settlingRead}
-use Rattle.line_decode.specs.Hearing.{bytesOf}
+use Rattle.line_decode.specs.Decoding.{bytesOf}
 use Rattle.call_checked.specs.declared.Settled.{Settled}
 use Rattle.call_checked.specs.declared.Settled.the-variants as settled
-use Rattle.call_checked.specs.Spoken.{settledAs, settledOn}
+use Rattle.call_checked.specs.Called.{settledAs, settledOn}
 use Rattle.call_checked.proofs.Settling.{limit-read, heard-bytes}
 use Rattle.calls.specs.Calls.{fallen, settledBy}
 use Rattle.calls.proofs.Tested.{settle-table, settle-no-table}

@@ -14,7 +14,7 @@ use Rattle.call_checked.specs.declared.Received.{Received}
 use Rattle.call_checked.specs.declared.Received.the-variants as received
 use Rattle.call_checked.specs.declared.Settled.{Settled}
 use Rattle.call_checked.specs.declared.Settled.the-variants as settled
-use Rattle.call_checked.specs.Spoken.{issuedOn, receivedOn, repliedOn, settledOn}
+use Rattle.call_checked.specs.Called.{issuedOn, receivedOn, repliedOn, settledOn}
 use Rattle.calls.specs.Calls.{issuedBy, receivedBy, repliedBy, settledBy}
 
 -- a space that was found to hold a table

@@ -9,10 +9,10 @@ use Rattle.line_hex.specs.Choice.{pick}
 use Rattle.line_hex.specs.Hex.{hexLine}
 use Rattle.line_read.specs.Types.{opening}
 use Rattle.line_read.specs.Named.{printingRead}
-use Rattle.line_decode.specs.Hearing.{bytesOf, typeOf}
+use Rattle.line_decode.specs.Decoding.{bytesOf, typeOf}
 use Rattle.form_write.specs.Forms.{savedForm}
-use Rattle.call_question.specs.Telling.{refusalBytes}
-use Rattle.call_checked.specs.Spoken.{openedBy}
+use Rattle.call_question.specs.AnswerBytes.{refusalBytes}
+use Rattle.call_checked.specs.Called.{openedBy}
 use Rattle.call_answer.specs.Answering.{answerOn, changing, isType, openedBytes}
 use Rattle.calls.specs.declared.Answered.{Answered}
 use Rattle.calls.specs.declared.Answered.the-variants as answered

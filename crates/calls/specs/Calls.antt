@@ -13,7 +13,7 @@ use Rattle.call_checked.specs.declared.Received.{Received}
 use Rattle.call_checked.specs.declared.Received.the-variants as received
 use Rattle.call_checked.specs.declared.Settled.{Settled}
 use Rattle.call_checked.specs.declared.Settled.the-variants as settled
-use Rattle.call_checked.specs.Spoken.{issuedOn, receivedOn, repliedOn, settledOn}
+use Rattle.call_checked.specs.Called.{issuedOn, receivedOn, repliedOn, settledOn}
 
 -- "A frame passes 14, 1 to 7, 8": on any space.
 unfoldable pub receivedBy : List ℕ → List ℕ → Received × List ℕ

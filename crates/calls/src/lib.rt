@@ -1,16 +1,16 @@
 // The public calls over a lent table space and a lent line. Each tries its refusals in 01's order, and a refusal changes nothing.
 ghost use mathlib.Core.Path.{_≡_};
-ghost use Rattle.call_checked.specs.Spoken.{openedBy};
+ghost use Rattle.call_checked.specs.Called.{openedBy};
 ghost use mathlib.Core.List.{[], _∷_};
 ghost use Prim.Native.Nat.{_≤_};
 ghost use lib.ListN.{length};
-ghost use Rattle.line_decode.specs.Hearing.{typeOf};
+ghost use Rattle.line_decode.specs.Decoding.{typeOf};
 ghost use Rattle.form_save.specs.Saving.{savedBy};
-ghost use Rattle.call_question.specs.Telling.{refusalBytes};
-ghost use Rattle.call_answer.specs.Answering.{frameRoom, toldAfter};
+ghost use Rattle.call_question.specs.AnswerBytes.{refusalBytes};
+ghost use Rattle.call_answer.specs.Answering.{frameRoom, answeredAfter};
 ghost use Rattle.calls.specs.Calls.{fallen, issuedBy, receivedBy, repliedBy, settledBy};
 ghost use Rattle.calls.specs.Answers.{answeredBy, answerOf, linesFor, longestAnswer, printedAt};
-ghost use Rattle.calls.specs.Told.{lineOrEnd};
+ghost use Rattle.calls.specs.LineOrEnd.{lineOrEnd};
 use question::Reply;
 use form_save::Saved;
 use call_checked::Issued;
@@ -98,14 +98,14 @@ pub enum Answered {
 // The one line that a line is answered with; before an accepted opening, 14 unless it is itself an opening.
 fn answer_first(space: &mut [u32], line: &[u8], out: &mut [u8]) -> Written
     requires { ⌜ frameRoom ≤ length (now out) ⌝ }
-    ensures { λ w. ⌜ (w, (now (space .exit), now (out .exit))) ≡ toldAfter (now (out .entry)) (answerOf (now (line .entry)) (now (space .entry))) ⌝ }
+    ensures { λ w. ⌜ (w, (now (space .exit), now (out .exit))) ≡ answeredAfter (now (out .entry)) (answerOf (now (line .entry)) (now (space .entry))) ⌝ }
 {
     let kind = line_decode::type_of(line);
     if table_rules::is_table(space) {
         return call_answer::answer_line(space, line, kind, out);
     }
     if kind == line_read::OPENING {
-        return call_answer::tell_opened(call_checked::open_line(space, line), out);
+        return call_answer::answer_opened(call_checked::open_line(space, line), out);
     }
     line_print::write_refusal(out, NO_TABLE)
 }

@@ -4,8 +4,8 @@ use mathlib.Core.Bool.{true}
 use mathlib.Core.List.{List, [], _∷_}
 use Prim.Native.Nat.{ℕ}
 use Rattle.words_layout.specs.Layout.{holdsTable}
-use Rattle.line_decode.specs.Hearing.{bytesOf, typeOf}
-use Rattle.call_checked.specs.Spoken.{openedBy}
+use Rattle.line_decode.specs.Decoding.{bytesOf, typeOf}
+use Rattle.call_checked.specs.Called.{openedBy}
 use Rattle.form_take.specs.declared.Loaded.{Loaded}
 use Rattle.form_take.specs.declared.Loaded.the-variants as loaded
 use Rattle.form_load.specs.Loading.{firstTaken, loadedBy, loadEnded}

@@ -15,9 +15,9 @@ use Rattle.line_put.specs.declared.Written.the-variants as written
 use Rattle.line_read.specs.Types.{isOf, refused}
 use Rattle.line_read.specs.Named.{printingRead}
 use Rattle.line_print.specs.Printed.{printed}
-use Rattle.line_decode.specs.Hearing.{bytesOf, typeOf}
+use Rattle.line_decode.specs.Decoding.{bytesOf, typeOf}
 use Rattle.form_write.specs.Forms.{savedForm}
-use Rattle.call_question.specs.Telling.{refusalBytes}
+use Rattle.call_question.specs.AnswerBytes.{refusalBytes}
 use Rattle.calls.specs.declared.Answered.{Answered}
 use Rattle.calls.specs.declared.Answered.the-variants as answered
 use Rattle.calls.specs.Answers.{answeredBy, linesFor, printedAt}

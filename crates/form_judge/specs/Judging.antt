@@ -1,7 +1,7 @@
 -- What the second program says of a form: "prints it again, or one `ff` line".
 use mathlib.Core.List.{List, [], _∷_}
 use Prim.Native.Nat.{ℕ}
-use Rattle.call_question.specs.Telling.{refusalBytes}
+use Rattle.call_question.specs.AnswerBytes.{refusalBytes}
 use Rattle.form_take.specs.declared.Loaded.{Loaded}
 use Rattle.form_take.specs.declared.Loaded.the-variants as loaded
 use Rattle.form_load.specs.Loading.{loadedBy, loadEnded}

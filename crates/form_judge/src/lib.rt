@@ -2,7 +2,7 @@
 ghost use mathlib.Core.Path.{_≡_};
 ghost use mathlib.Core.List.{[], _∷_};
 ghost use Rattle.calls.specs.Answers.{printedAt};
-ghost use Rattle.call_question.specs.Telling.{refusalBytes};
+ghost use Rattle.call_question.specs.AnswerBytes.{refusalBytes};
 ghost use Rattle.form_judge.specs.Judging.{judgedAs, judgedBy, judgedEnd, resavedBy};
 use calls::Answered;
 use form_take::Loaded;

@@ -26,10 +26,10 @@ use Rattle.line_read.specs.declared.Row.{Row}
 use Rattle.line_read.specs.SavedNamed.{clockRead, closingRead, lastRead, rowRead, totalRead}
 use Rattle.line_read.proofs.Vectors.{clock-vector, last-vector, row-vector}
 use Rattle.line_read.specs.Named.{openingRead}
-use Rattle.line_decode.specs.Hearing.{bytesOf, typeOf}
+use Rattle.line_decode.specs.Decoding.{bytesOf, typeOf}
 use Rattle.call_checked.specs.declared.Opened.{Opened}
 use Rattle.call_checked.specs.declared.Opened.the-variants as opening
-use Rattle.call_checked.specs.Spoken.{headerRead, openedAs, openedBy}
+use Rattle.call_checked.specs.Called.{headerRead, openedAs, openedBy}
 use Rattle.call_checked.proofs.Opening.{open-ranges, open-room}
 use Rattle.form_write.specs.declared.Sought.the-variants as sought
 use Rattle.form_write.specs.Seeking.{counterAt}

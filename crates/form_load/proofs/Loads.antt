@@ -14,11 +14,11 @@ use Rattle.words_layout.specs.Layout.{holdsTable, spaceFor, wordsOf}
 use Rattle.line_hex.specs.Choice.{pick}
 use Rattle.words_tags.specs.declared.Station.{Station}
 use Rattle.line_read.specs.Named.{openingRead}
-use Rattle.line_decode.specs.Hearing.{bytesOf, heardIn, typeOf}
-use Rattle.line_decode.proofs.Hearing.{heard-front}
+use Rattle.line_decode.specs.Decoding.{bytesOf, decodedInto, typeOf}
+use Rattle.line_decode.proofs.Decoding.{heard-front}
 use Rattle.call_checked.specs.declared.Opened.{Opened}
 use Rattle.call_checked.specs.declared.Opened.the-variants as opened
-use Rattle.call_checked.specs.Spoken.{headerRead, openedAs, openedBy}
+use Rattle.call_checked.specs.Called.{headerRead, openedAs, openedBy}
 use Rattle.form_take.specs.declared.Loaded.{Loaded}
 use Rattle.form_take.specs.declared.Loaded.the-variants as loaded
 use Rattle.form_take.specs.Taking.{clockTaken, lastTaken, rowOrClosing, spoilt, totalTaken}
@@ -52,7 +52,7 @@ module _ (s bytes : List ℕ) (n : Next) (e : n ≡ nextIn s) (r : Loaded) (x : 
   unfolding takenAs
   takes-nothing h g = as-next next.Nothing h g
 
-pub takes-heard : (s line buffer : List ℕ) → length buffer ≡ 261 → (n : ℕ) (y : List ℕ) → (n, y) ≡ heardIn line buffer → (r : Loaded) (x : List ℕ) → (r, x) ≡ takenAs (nextIn s) (take (n - 0) y) s → (r, x) ≡ takenAs (nextIn s) (bytesOf line) s
+pub takes-heard : (s line buffer : List ℕ) → length buffer ≡ 261 → (n : ℕ) (y : List ℕ) → (n, y) ≡ decodedInto line buffer → (r : Loaded) (x : List ℕ) → (r, x) ≡ takenAs (nextIn s) (take (n - 0) y) s → (r, x) ≡ takenAs (nextIn s) (bytesOf line) s
 takes-heard s line buffer long n y h r x g = g ∙ ap (λ (b : List ℕ). takenAs (nextIn s) b s) (heard-front line buffer long n y h)
 
 -- an opening lays a head of seven words

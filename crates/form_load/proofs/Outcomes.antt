@@ -16,10 +16,10 @@ use Rattle.line_hex.specs.Choice.{pick}
 use Rattle.line_read.specs.Named.{openingRead}
 use Rattle.line_read.specs.declared.Row.{Row}
 use Rattle.line_read.specs.SavedNamed.{clockRead, closingRead, lastRead, rowRead, totalRead}
-use Rattle.line_decode.specs.Hearing.{bytesOf, typeOf}
+use Rattle.line_decode.specs.Decoding.{bytesOf, typeOf}
 use Rattle.call_checked.specs.declared.Opened.{Opened}
 use Rattle.call_checked.specs.declared.Opened.the-variants as opened
-use Rattle.call_checked.specs.Spoken.{headerRead, openedAs, openedBy}
+use Rattle.call_checked.specs.Called.{headerRead, openedAs, openedBy}
 use Rattle.form_row.specs.Joining.{joined, joins, rowSaid}
 use Rattle.form_take.specs.declared.Loaded.{Loaded}
 use Rattle.form_take.specs.declared.Loaded.the-variants as loaded

@@ -10,13 +10,13 @@ use Rattle.words_layout.specs.Layout.{capacityIn, countIn, holdsTable, objectsI
 use Rattle.table_rules.specs.TableTests.{kindsIn, sizesKept}
 use Rattle.line_hex.specs.Choice.{pick}
 use Rattle.line_read.specs.Types.{clock, closing, opening}
-use Rattle.line_decode.specs.Hearing.{bytesOf, typeOf}
+use Rattle.line_decode.specs.Decoding.{bytesOf, typeOf}
 use Rattle.form_write.specs.declared.Sought.{Sought}
 use Rattle.form_write.specs.declared.Sought.the-variants as sought
 use Rattle.form_write.specs.Seeking.{counterAt, otherAt}
 use Rattle.call_checked.specs.declared.Opened.{Opened}
 use Rattle.call_checked.specs.declared.Opened.the-variants as opened
-use Rattle.call_checked.specs.Spoken.{openedBy}
+use Rattle.call_checked.specs.Called.{openedBy}
 use Rattle.form_take.specs.declared.Loaded.{Loaded}
 use Rattle.form_take.specs.declared.Loaded.the-variants as loaded
 use Rattle.form_take.specs.Taking.{clockTaken, lastTaken, progressIn, rowOrClosing, spoilt, totalTaken}

@@ -17,9 +17,9 @@ use Rattle.line_shape.specs.Shapes.{lengthOf, read}
 use Rattle.line_read.specs.Named.{openingRead}
 use Rattle.line_read.specs.Types.{isOf, lineRead}
 use Rattle.line_read.specs.SavedNamed.{clockRead, closingRead, lastRead, rowRead, totalRead}
-use Rattle.line_decode.specs.Hearing.{bytesOf, typeOf}
+use Rattle.line_decode.specs.Decoding.{bytesOf, typeOf}
 use Rattle.line_decode.specs.Text.{characters, lineSaying}
-use Rattle.call_checked.specs.Spoken.{headerRead, openedAs, openedBy}
+use Rattle.call_checked.specs.Called.{headerRead, openedAs, openedBy}
 use Rattle.form_write.specs.Seeking.{counterAt, otherAt}
 use Rattle.table_rules.specs.TableTests.{sizesKept}
 use Rattle.table_rules_rows.specs.RowTests.{contentKept, follows, numberKept, rowKept, tagKept, unsettledKept}

@@ -4,8 +4,8 @@ ghost use mathlib.Core.Bool.{true};
 ghost use Prim.Native.Nat.{_≤_};
 ghost use lib.ListN.{length};
 ghost use Rattle.words_layout.specs.Layout.{clockAt};
-ghost use Rattle.line_decode.specs.Hearing.{bytesOf};
-ghost use Rattle.call_checked.specs.Spoken.{openedBy};
+ghost use Rattle.line_decode.specs.Decoding.{bytesOf};
+ghost use Rattle.call_checked.specs.Called.{openedBy};
 ghost use Rattle.form_row.specs.LoadHead.{LoadHead};
 ghost use Rattle.form_load.specs.Loading.{begun, behindLasts, firstTaken, headLoads, loadEnded, loadWaits, loadedBy, nextIn, takenAs, underLoad, waits};
 use form_write::Sought;
@@ -154,7 +154,7 @@ fn take_line(space: &mut [u32], line: &[u8]) -> Loaded
     ensures { λ r. ⌜ (r, now (space .exit)) ≡ takenAs (nextIn (now (space .entry))) (bytesOf (now (line .entry))) (now (space .entry)) ⌝ }
 {
     let mut bytes = [0u8; line_read::LONGEST];
-    let n = line_decode::hear(line, &mut bytes);
+    let n = line_decode::decode_line(line, &mut bytes);
     take_bytes(space, &bytes[0..n])
 }
 

@@ -12,7 +12,7 @@ use Rattle.line_read.specs.Named.{printingRead}
 use Rattle.line_put.specs.Writing.{lineWritten}
 use Rattle.line_put.specs.declared.Written.{Written}
 use Rattle.line_put.specs.declared.Written.the-variants as written
-use Rattle.line_decode.specs.Hearing.{bytesOf}
+use Rattle.line_decode.specs.Decoding.{bytesOf}
 use Rattle.form_write.specs.Forms.{formedOf, lineAt, lineInto, savedForm}
 use Rattle.form_write.specs.declared.Formed.{Formed}
 use Rattle.form_write.specs.declared.Formed.the-variants as formed

@@ -4,7 +4,7 @@ use Prim.Native.Nat.{ℕ}
 use Rattle.words_layout.specs.Layout.{holdsTable, tableOf}
 use Rattle.line_hex.specs.Choice.{pick}
 use Rattle.line_read.specs.Named.{printingRead}
-use Rattle.line_decode.specs.Hearing.{bytesOf}
+use Rattle.line_decode.specs.Decoding.{bytesOf}
 use Rattle.form_write.specs.Forms.{lineAt, savedForm}
 use Rattle.form_write.specs.declared.Formed.{Formed}
 use Rattle.form_write.specs.declared.Formed.the-variants as formed

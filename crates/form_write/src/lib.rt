@@ -37,7 +37,7 @@ pub enum Sought {
 }
 
 // What a line that was written to a space is told as.
-fn told(w: Written) -> Formed
+fn as_formed(w: Written) -> Formed
     ensures { λ r. ⌜ r ≡ formedOf w ⌝ }
 {
     match w {
@@ -84,10 +84,10 @@ fn write_behind_totals(space: &[u32], place: usize, out: &mut [u8]) -> Formed
 {
     let rows = words_tags::wide(space[COUNT_AT]);
     if place < rows {
-        return told(form_lines::write_row(space, RowCount(place as u32), out));
+        return as_formed(form_lines::write_row(space, RowCount(place as u32), out));
     }
     if place == rows {
-        return told(form_lines::write_closing(space, out));
+        return as_formed(form_lines::write_closing(space, out));
     }
     Formed::End
 }
@@ -99,7 +99,7 @@ fn write_behind_lasts(space: &[u32], place: usize, out: &mut [u8]) -> Formed
 {
     let end = KINDS_AT + words_tags::wide(space[OBJECTS_AT]);
     match counter(&space[KINDS_AT..end], place) {
-        Sought::At(object) => told(form_lines::write_total(space, object as u32, out)),
+        Sought::At(object) => as_formed(form_lines::write_total(space, object as u32, out)),
         Sought::Behind(left) => write_behind_totals(space, left, out),
     }
 }
@@ -110,16 +110,16 @@ pub fn write_line(space: &[u32], k: usize, out: &mut [u8]) -> Formed
     ensures { λ r. ⌜ (r, now (out .exit)) ≡ lineAt (savedForm (tableOf (now (space .entry)))) k (now (out .entry)) ⌝ }
 {
     if k == OPENING_PLACE {
-        return told(form_lines::write_opening(space, out));
+        return as_formed(form_lines::write_opening(space, out));
     }
     if k == CLOCK_PLACE {
-        return told(form_lines::write_clock(space, out));
+        return as_formed(form_lines::write_clock(space, out));
     }
     // The own station has no line: one line less than there are stations follows that of the clock.
     let lasts_end = CLOCK_PLACE + words_tags::wide(space[SIZE_AT]);
     if k < lasts_end {
         let station = other(Station(space[OWN_AT]), (k - LASTS_PLACE) as u32);
-        return told(form_lines::write_last(space, station, out));
+        return as_formed(form_lines::write_last(space, station, out));
     }
     write_behind_lasts(space, k - lasts_end, out)
 }

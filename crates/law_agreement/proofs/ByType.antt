@@ -27,15 +27,15 @@ use Rattle.line_shape.specs.Shapes.{written}
 use Rattle.line_put.specs.Writing.{lineBytes, lineWritten}
 use Rattle.line_read.specs.Types.{issue, opening, operation, printing, question, settling}
 use Rattle.line_read.specs.Named.{issueRead, openingRead, operationRead, printingRead, questionRead, settlingRead}
-use Rattle.line_decode.specs.Hearing.{bytesOf}
-use Rattle.call_question.specs.Telling.{listBytes, refusalBytes, replyBytes}
+use Rattle.line_decode.specs.Decoding.{bytesOf}
+use Rattle.call_question.specs.AnswerBytes.{listBytes, refusalBytes, replyBytes}
 use Rattle.call_checked.specs.declared.Issued.the-variants as issued
 use Rattle.call_checked.specs.declared.Opened.the-variants as opened
 use Rattle.call_checked.specs.declared.Received.the-variants as received
 use Rattle.call_checked.specs.declared.Settled.the-variants as settled
-use Rattle.call_checked.specs.Spoken.{frameBytes, frameOf, framedAs, headerRead, issuedAs, issuedOn, localOf, openedAs, openedBy, receivedAs, receivedOn, repliedOn, settledAs, settledOn}
+use Rattle.call_checked.specs.Called.{frameBytes, frameOf, framedAs, headerRead, issuedAs, issuedOn, localOf, openedAs, openedBy, receivedAs, receivedOn, repliedOn, settledAs, settledOn}
 use Rattle.call_answer.specs.Answering.{answerOn, changing, issueAnswer, issuedBytes, openedBytes, questionAnswer, receivedBytes, secondOpening, settledBytes}
-use Rattle.line_decode.specs.Hearing.{typeOf}
+use Rattle.line_decode.specs.Decoding.{typeOf}
 use Rattle.form_write.specs.Forms.{savedForm}
 use Rattle.form_save.specs.declared.Saved.{Saved}
 use Rattle.form_save.specs.declared.Saved.the-variants as saved
@@ -47,7 +47,7 @@ use Rattle.calls.specs.Calls as calls
 use Rattle.calls.specs.Calls.{receivedBy, repliedBy, settledBy}
 use Rattle.calls.proofs.Answering.{answer-formed, form-end, form-line, form-refused, one-line}
 use Rattle.law_agreement.specs.Conditions.{isLineOf}
-use Rattle.law_agreement.specs.Lines.{ByType, isDone, issuedTold, repliedTold, savedTold}
+use Rattle.law_agreement.specs.Lines.{ByType, isDone, issuedAnswer, repliedAnswer, savedAnswer}
 use Rattle.law_agreement.proofs.Shaping.{printing-shaped}
 use Rattle.law_agreement.proofs.Lines.{done-is-done, frame-room, zeros-frame}
 
@@ -82,8 +82,8 @@ module _ (line words : List ℕ) where
   told-second z t = by-table 16 z ∙ rw t refl
 
 -- a reply, as it stands in a list space and as it is told
-reply-told : (r : meaning.Reply) (out : List ℕ) → replyBytes r ≡ repliedTold (replied r out)
-unfolding replyBytes repliedTold replied
+reply-told : (r : meaning.Reply) (out : List ℕ) → replyBytes r ≡ repliedAnswer (replied r out)
+unfolding replyBytes repliedAnswer replied
 reply-told (meaning.Reply.refused number) out = refl
 reply-told (meaning.Reply.tooLong needed) out = refl
 reply-told (meaning.Reply.answered (asks.total z)) out = refl
@@ -97,14 +97,14 @@ list-room : length (zeros 512) ≡ 512
 unfolding zeros
 list-room = length-replicate {A = ℕ} 512 0
 
-question-told : (line words : List ℕ) → questionAnswer line words ≡ repliedTold (repliedOn line words (zeros 512))
-unfolding questionAnswer repliedOn repliedTold
+question-told : (line words : List ℕ) → questionAnswer line words ≡ repliedAnswer (repliedOn line words (zeros 512))
+unfolding questionAnswer repliedOn repliedAnswer
 question-told line words = by (questionRead (bytesOf line) .ok)
   where
     asked : asks.Asked
     asked = askedFrom (questionRead (bytesOf line) .object) (questionRead (bytesOf line) .question) (questionRead (bytesOf line) .value)
 
-    by : (b : Bool) → pick b (replyBytes (meaning.ask (tableOf words) 512 asked)) (refusalBytes 1) ≡ repliedTold (pick b (replied (meaning.ask (tableOf words) (length (zeros 512)) asked) (zeros 512)) (reply.Refused 1, zeros 512))
+    by : (b : Bool) → pick b (replyBytes (meaning.ask (tableOf words) 512 asked)) (refusalBytes 1) ≡ repliedAnswer (pick b (replied (meaning.ask (tableOf words) (length (zeros 512)) asked) (zeros 512)) (reply.Refused 1, zeros 512))
     by true = ap (λ (n : ℕ). replyBytes (meaning.ask (tableOf words) n asked)) (sym list-room) ∙ reply-told (meaning.ask (tableOf words) (length (zeros 512)) asked) (zeros 512)
     by false = refl
 
@@ -117,22 +117,22 @@ unfolding hexLine digitsOf digitOf
 zero-first bytes = refl
 
 frame-told : (words out : List ℕ) (u : Operation) (t : Table) → leb (length (hexLine (frameBytes u))) (length out) ≡ true →
-    characters (issuedBytes words (meaning.Outcome.accepted u t)) ≡ issuedTold (issuedAs words out (meaning.Outcome.accepted u t))
-unfolding issuedBytes issuedAs issuedTold framedAs lineWritten
+    characters (issuedBytes words (meaning.Outcome.accepted u t)) ≡ issuedAnswer (issuedAs words out (meaning.Outcome.accepted u t))
+unfolding issuedBytes issuedAs issuedAnswer framedAs lineWritten
 frame-told words out u t fits = rw fits
     (ap (λ (l : List ℕ). (l, rewritten words t)) (zero-first (frameBytes u) ∙ ap (λ (l : List ℕ). 48 ∷ 48 ∷ l) (sym (take-at (hexLine (frameBytes u)) (drop (length (hexLine (frameBytes u))) out) (length (hexLine (frameBytes u))) refl))))
 
 outcome-told : (words out : List ℕ) (number : ℕ) (u : Operation) (t : Table) → leb (length (hexLine (frameBytes u))) (length out) ≡ true →
-    characters (issuedBytes words (outcome number u t)) ≡ issuedTold (issuedAs words out (outcome number u t))
-unfolding outcome issuedBytes issuedAs issuedTold
+    characters (issuedBytes words (outcome number u t)) ≡ issuedAnswer (issuedAs words out (outcome number u t))
+unfolding outcome issuedBytes issuedAs issuedAnswer
 outcome-told words out number u t fits = by (eqb number 0)
   where
-    by : (b : Bool) → characters (issuedBytes words (cond b (meaning.Outcome.accepted u t) (meaning.Outcome.refused number))) ≡ issuedTold (issuedAs words out (cond b (meaning.Outcome.accepted u t) (meaning.Outcome.refused number)))
+    by : (b : Bool) → characters (issuedBytes words (cond b (meaning.Outcome.accepted u t) (meaning.Outcome.refused number))) ≡ issuedAnswer (issuedAs words out (cond b (meaning.Outcome.accepted u t) (meaning.Outcome.refused number)))
     by true = frame-told words out u t fits
     by false = refl
 
-issue-told : (line words : List ℕ) → holdsTable words ≡ true → characters (issueAnswer line words) ≡ issuedTold (issuedOn line words (zeros 147))
-unfolding issueAnswer issuedOn issuedTold meaning.issue
+issue-told : (line words : List ℕ) → holdsTable words ≡ true → characters (issueAnswer line words) ≡ issuedAnswer (issuedOn line words (zeros 147))
+unfolding issueAnswer issuedOn issuedAnswer meaning.issue
 issue-told line words held = by (issueRead (bytesOf line) .ok)
   where
     local : Local
@@ -144,7 +144,7 @@ issue-told line words held = by (issueRead (bytesOf line) .ok)
     fits : leb (length (hexLine (frameBytes u))) (length (zeros 147)) ≡ true
     fits = rw zeros-frame (le-leb (length (hexLine (frameBytes u))) 147 (frame-room words (checked words held) local))
 
-    by : (b : Bool) → characters (pick b (issuedBytes words (meaning.issue (tableOf words) local)) (refusalBytes 1, words)) ≡ issuedTold (pick b (issuedAs words (zeros 147) (meaning.issue (tableOf words) local)) (issued.Refused 1, (words, zeros 147)))
+    by : (b : Bool) → characters (pick b (issuedBytes words (meaning.issue (tableOf words) local)) (refusalBytes 1, words)) ≡ issuedAnswer (pick b (issuedAs words (zeros 147) (meaning.issue (tableOf words) local)) (issued.Refused 1, (words, zeros 147)))
     by true = outcome-told words (zeros 147) (refusalOfLocal (tableOf words) local) u (afterArrival (tableOf words) u (tableOf words .last)) fits
     by false = refl
 
@@ -165,15 +165,15 @@ module _ (line words : List ℕ) (t : typeOf line ≡ printing .typeByte) where
     at-place : (a : Answered) (y : List ℕ) → (a, y) ≡ printedAt (linesFor line words) place out → answeredBy line place words out ≡ (a, (words, y))
     at-place a y e = sym (answer-formed line words out (typeOf line) refl t place long a y e)
 
-    told-saved : (q : Saved) → given .0 ≡ q → answeredBy line place words out ≡ savedTold words place (q, given .1)
-    unfolding savedTold
+    told-saved : (q : Saved) → given .0 ≡ q → answeredBy line place words out ≡ savedAnswer words place (q, given .1)
+    unfolding savedAnswer
     told-saved (saved.Refused number) h =
         let told = printedAt (refusalBytes number ∷ []) place (given .1) in
         at-place (told .0) (told .1) (form-refused line words out t room place (given .0) (given .1) refl number h (told .0) (told .1) refl)
     told-saved (saved.Line n) h = at-place (answered.Line n) (given .1) (form-line line words out t room place (given .0) (given .1) refl n h)
     told-saved saved.End h = at-place answered.End (given .1) (form-end line words out t room place (given .0) (given .1) refl h)
 
-  told-form : (place : ℕ) (out : List ℕ) → length out ≡ longestAnswer → answeredBy line place words out ≡ savedTold words place (savedBy line words place out)
+  told-form : (place : ℕ) (out : List ℕ) → length out ≡ longestAnswer → answeredBy line place words out ≡ savedAnswer words place (savedBy line words place out)
   told-form place out long = told-saved place out long (savedBy line words place out .0) refl
 
   told-no-form : holdsTable words ≡ false → linesFor line words ≡ refusalBytes 14 ∷ []
@@ -185,20 +185,20 @@ module _ (line words : List ℕ) (t : typeOf line ≡ printing .typeByte) where
   told-misshapen m h = let unread : printingRead (bytesOf line) ≡ false = printing-shaped line ∙ m in rw (by-table line words 96 t, h, unread) refl
 
 module _ (line words : List ℕ) where
-  told-question : typeOf line ≡ question .typeByte → answerOf line words ≡ (repliedTold (repliedBy line words (zeros 512)), words)
-  unfolding answerOn repliedBy repliedTold
+  told-question : typeOf line ≡ question .typeByte → answerOf line words ≡ (repliedAnswer (repliedBy line words (zeros 512)), words)
+  unfolding answerOn repliedBy repliedAnswer
   told-question z = by-table line words 64 z ∙ by (holdsTable words)
     where
-      by : (b : Bool) → pick {A = List ℕ × List ℕ} b (questionAnswer line words, words) (refusalBytes 14, words) ≡ (repliedTold (pick b (repliedOn line words (zeros 512)) (reply.Refused 14, zeros 512)), words)
+      by : (b : Bool) → pick {A = List ℕ × List ℕ} b (questionAnswer line words, words) (refusalBytes 14, words) ≡ (repliedAnswer (pick b (repliedOn line words (zeros 512)) (reply.Refused 14, zeros 512)), words)
       by true = ap (λ (l : List ℕ). (l, words)) (question-told line words)
       by false = refl
 
-  told-issue : typeOf line ≡ issue .typeByte → characters (answerOf line words) ≡ issuedTold (calls.issuedBy line words (zeros 147))
-  unfolding answerOn calls.issuedBy issuedTold
+  told-issue : typeOf line ≡ issue .typeByte → characters (answerOf line words) ≡ issuedAnswer (calls.issuedBy line words (zeros 147))
+  unfolding answerOn calls.issuedBy issuedAnswer
   told-issue z = ap characters (by-table line words 33 z) ∙ by (holdsTable words) (issue-told line words)
     where
-      by : (b : Bool) → (b ≡ true → characters (issueAnswer line words) ≡ issuedTold (issuedOn line words (zeros 147))) →
-          characters (pick b (issueAnswer line words) (refusalBytes 14, words)) ≡ issuedTold (pick b (issuedOn line words (zeros 147)) (issued.Refused 14, (words, zeros 147)))
+      by : (b : Bool) → (b ≡ true → characters (issueAnswer line words) ≡ issuedAnswer (issuedOn line words (zeros 147))) →
+          characters (pick b (issueAnswer line words) (refusalBytes 14, words)) ≡ issuedAnswer (pick b (issuedOn line words (zeros 147)) (issued.Refused 14, (words, zeros 147)))
       by true f = f refl
       by false f = refl
 

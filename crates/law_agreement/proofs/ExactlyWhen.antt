@@ -29,7 +29,7 @@ use Rattle.line_hex.specs.Hex.{hexLine}
 use Rattle.line_put.specs.Writing.{lineWritten}
 use Rattle.line_read.specs.Types.{operation}
 use Rattle.line_read.specs.Named.{stationsOf, issueRead, openingRead, operationRead, printingRead, questionRead, settlingRead}
-use Rattle.line_decode.specs.Hearing.{bytesOf}
+use Rattle.line_decode.specs.Decoding.{bytesOf}
 use Rattle.form_write.specs.Forms.{lineAt, savedForm}
 use Rattle.form_write.proofs.Lines.{line-none, line-there, line-too-short}
 use Rattle.form_save.specs.declared.Saved.{Saved}
@@ -44,7 +44,7 @@ use Rattle.call_checked.specs.declared.Issued.the-variants as issued
 use Rattle.call_checked.specs.declared.Settled.{Settled}
 use Rattle.call_checked.specs.declared.Settled.the-variants as settled
 use Rattle.calls.specs.Calls as calls
-use Rattle.call_checked.specs.Spoken.{frameBytes, frameOf, framedAs, headerRead, issuedAs, issuedOn, localOf, openedAs, openedBy, receivedAs, receivedOn, repliedOn, settledAs, settledOn}
+use Rattle.call_checked.specs.Called.{frameBytes, frameOf, framedAs, headerRead, issuedAs, issuedOn, localOf, openedAs, openedBy, receivedAs, receivedOn, repliedOn, settledAs, settledOn}
 use Rattle.calls.specs.Calls.{receivedBy, repliedBy, settledBy}
 use Rattle.law_agreement.specs.Conditions.{isLineOf, openConditions, receiveConditions, issueConditions, settleConditions, askConditions, saveConditions, numberOfOpened, numberOfReceived, numberOfIssued, numberOfSettled, numberOfSaved, askRefusal, openResult, receiveResult, issueResult, settleResult, askResult, saveResult}
 use Rattle.call_checked.proofs.Settling.{limit-read, heard-bytes}

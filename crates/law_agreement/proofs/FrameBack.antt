@@ -33,13 +33,13 @@ use Rattle.line_read.specs.Named.{issueRead, operationRead}
 use Rattle.line_read.proofs.Longest.{operation-at-most-longest}
 use Rattle.line_read.proofs.Named.{operation-reads-back}
 use Rattle.line_read.proofs.Spelling.{all-bytes-line-of}
-use Rattle.line_decode.specs.Hearing.{bytesOf}
-use Rattle.line_decode.proofs.Hearing.{bytes-back}
+use Rattle.line_decode.specs.Decoding.{bytesOf}
+use Rattle.line_decode.proofs.Decoding.{bytes-back}
 use Rattle.call_checked.specs.declared.Issued.{Issued}
 use Rattle.call_checked.specs.declared.Issued.the-variants as issued
 use Rattle.call_checked.specs.declared.Received.the-variants as received
 use Rattle.calls.specs.Calls as calls
-use Rattle.call_checked.specs.Spoken.{frameBytes, frameOf, localOf, receivedAs, receivedOn}
+use Rattle.call_checked.specs.Called.{frameBytes, frameOf, localOf, receivedAs, receivedOn}
 use Rattle.calls.specs.Calls.{receivedBy}
 use Rattle.law_agreement.specs.Conditions.{issueConditions, issueResult, numberOfIssued}
 use Rattle.call_checked.proofs.Settling.{heard-bytes}

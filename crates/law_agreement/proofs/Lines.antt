@@ -34,8 +34,8 @@ use Rattle.line_put.proofs.Whole.{length-hex-line}
 use Rattle.line_read.specs.Types.{operation, question, refused}
 use Rattle.line_read.specs.Named.{issueRead, openingRead, operationRead, questionRead, settlingRead}
 use Rattle.line_print.specs.Printed.{printed}
-use Rattle.line_decode.specs.Hearing.{bytesOf}
-use Rattle.call_question.specs.Telling.{listBytes, refusalBytes, replyBytes}
+use Rattle.line_decode.specs.Decoding.{bytesOf}
+use Rattle.call_question.specs.AnswerBytes.{listBytes, refusalBytes, replyBytes}
 use Rattle.line_read.proofs.Lengths.{line-length}
 use Rattle.call_question.proofs.Told.{chain, never-long}
 use Rattle.call_checked.specs.declared.Issued.{Issued}
@@ -46,10 +46,10 @@ use Rattle.call_checked.specs.declared.Settled.{Settled}
 use Rattle.call_checked.specs.declared.Settled.the-variants as settled
 use Rattle.call_checked.specs.declared.Opened.{Opened}
 use Rattle.call_checked.specs.declared.Opened.the-variants as opened
-use Rattle.call_checked.specs.Spoken.{frameBytes, frameOf, headerRead, issuedOn, localOf, openedBy, receivedAs, receivedOn, settledOn}
-use Rattle.call_answer.specs.Answering.{answerOn, doneBytes, issueAnswer, issuedBytes, openedBytes, questionAnswer, receivedBytes, secondOpening, settledBytes, toldAfter}
+use Rattle.call_checked.specs.Called.{frameBytes, frameOf, headerRead, issuedOn, localOf, openedBy, receivedAs, receivedOn, settledOn}
+use Rattle.call_answer.specs.Answering.{answerOn, doneBytes, issueAnswer, issuedBytes, openedBytes, questionAnswer, receivedBytes, secondOpening, settledBytes, answeredAfter}
 use Rattle.call_answer.proofs.Framing.{issue-framed, issue-refused}
-use Rattle.line_decode.specs.Hearing.{typeOf}
+use Rattle.line_decode.specs.Decoding.{typeOf}
 use Rattle.calls.specs.Answers.{answerOf}
 use Rattle.calls.specs.Calls as calls
 use Rattle.calls.specs.Calls.{receivedBy, settledBy}
@@ -99,7 +99,7 @@ module _ (line words : List ℕ) (held : holdsTable words ≡ true) where
     space = take 2 out ++ (y ++ drop (length out - 2) (drop 2 out))
 
     issue-by : (r : Issued) → (r, (x, y)) ≡ issuedOn line words lent → x ≡ issueAnswer line words .1
-    unfolding toldAfter
+    unfolding answeredAfter
     issue-by (issued.Refused number) e = ap (λ (q : Written × (List ℕ × List ℕ)). q .1 .0)
         (issue-refused words line out (checked words held) room (issued.Refused number) x y e number refl (printed space refused (number ∷ []) [] .0) (printed space refused (number ∷ []) [] .1) refl)
     issue-by (issued.Frame n) e = ap (λ (q : Written × (List ℕ × List ℕ)). q .1 .0)

@@ -22,8 +22,8 @@ use Rattle.line_shape.specs.declared.Fields.{Fields}
 use Rattle.line_read.specs.Types.{Line, headOf, isOf, lineRead, opening, operation, issue, settling, question, printing}
 use Rattle.line_read.specs.Named.{countOf, stationsOf, openingOf, issueRead, openingRead, operationRead, printingRead, questionRead, settlingRead}
 use Rattle.line_read.proofs.Named.{operation-stations, operation-vector-length}
-use Rattle.line_decode.specs.Hearing.{bytesOf}
-use Rattle.call_checked.specs.Spoken.{frameOf}
+use Rattle.line_decode.specs.Decoding.{bytesOf}
+use Rattle.call_checked.specs.Called.{frameOf}
 use Rattle.law_agreement.specs.Conditions.{isLineOf}
 
 -- no bytes are no line

@@ -21,7 +21,7 @@ use Rattle.line_hex.specs.Decoding.{isLine}
 use Rattle.line_hex.specs.Hex.{hexLine}
 use Rattle.line_read.specs.Types.{Line, isOf, longest, opening, operation, issue, settling, question, printing}
 use Rattle.line_read.specs.Named.{countOf, stationsOf, issueRead, operationRead, questionRead, settlingRead}
-use Rattle.line_decode.specs.Hearing.{bytesOf}
+use Rattle.line_decode.specs.Decoding.{bytesOf}
 use Rattle.form_write.specs.Forms.{savedForm}
 use Rattle.form_save.specs.declared.Saved.{Saved}
 use Rattle.form_save.specs.declared.Saved.the-variants as saved
@@ -33,7 +33,7 @@ use Rattle.call_checked.specs.declared.Issued.{Issued}
 use Rattle.call_checked.specs.declared.Issued.the-variants as issued
 use Rattle.call_checked.specs.declared.Settled.{Settled}
 use Rattle.call_checked.specs.declared.Settled.the-variants as settled
-use Rattle.call_checked.specs.Spoken.{headerRead, localOf, frameBytes, frameOf}
+use Rattle.call_checked.specs.Called.{headerRead, localOf, frameBytes, frameOf}
 
 -- Not "line not lower-case hexadecimal or without its LF", and not "wrong length or type": it has so many fields beyond those that each of its type has.
 unfoldable pub isLineOf : Line → ℕ → List ℕ → Bool

@@ -18,13 +18,13 @@ use Rattle.line_hex.specs.Choice.{pick}
 use Rattle.line_hex.specs.Hex.{figureZero, hexLine}
 use Rattle.line_read.specs.Types.{count, flag, issue, lineOf, opening, operation, printing, question, settling, sum}
 use Rattle.line_read.specs.Named.{issueRead, operationRead, questionRead}
-use Rattle.line_decode.specs.Hearing.{bytesOf}
-use Rattle.call_question.specs.Telling.{listBytes, refusalBytes, replyBytes}
+use Rattle.line_decode.specs.Decoding.{bytesOf}
+use Rattle.call_question.specs.AnswerBytes.{listBytes, refusalBytes, replyBytes}
 use Rattle.call_checked.specs.declared.Issued.{Issued}
 use Rattle.call_checked.specs.declared.Issued.the-variants as issued
-use Rattle.call_checked.specs.Spoken.{frameOf, localOf, openedBy}
+use Rattle.call_checked.specs.Called.{frameOf, localOf, openedBy}
 use Rattle.call_answer.specs.Answering.{changing, doneBytes, isType, openedBytes, receivedBytes, secondOpening, settledBytes}
-use Rattle.line_decode.specs.Hearing.{typeOf}
+use Rattle.line_decode.specs.Decoding.{typeOf}
 use Rattle.form_write.specs.Forms.{savedForm}
 use Rattle.form_save.specs.declared.Saved.{Saved}
 use Rattle.form_save.specs.declared.Saved.the-variants as saved
@@ -91,38 +91,38 @@ callsOfAll [] = []
 callsOfAll (line ∷ rest) = callsOf line ++ callsOfAll rest
 
 -- What a call answered, as the program tells it. "issue the `20` frame": the two characters of `00`, and the line that stands in the frame space.
-unfoldable pub issuedTold : Issued × (List ℕ × List ℕ) → List ℕ × List ℕ
-issuedTold (issued.Refused number, (words, out)) = (hexLine (refusalBytes number), words)
-issuedTold (issued.Frame characters, (words, out)) = (figureZero ∷ figureZero ∷ take characters out, words)
+unfoldable pub issuedAnswer : Issued × (List ℕ × List ℕ) → List ℕ × List ℕ
+issuedAnswer (issued.Refused number, (words, out)) = (hexLine (refusalBytes number), words)
+issuedAnswer (issued.Frame characters, (words, out)) = (figureZero ∷ figureZero ∷ take characters out, words)
 
 -- "count 2 bytes; total 8; flag and holds 1; list a 2-byte count, then the different values ascending", which stand in the list space.
-unfoldable pub repliedTold : Reply × List ℕ → List ℕ
-repliedTold (reply.Refused number, out) = refusalBytes number
-repliedTold (reply.TooLong needed, out) = refusalBytes 11
-repliedTold (reply.Total high low, out) = lineOf sum (high ∷ low ∷ []) []
-repliedTold (reply.Flag on, out) = lineOf flag (cond on 1 0 ∷ []) []
-repliedTold (reply.List values, out) = listBytes (take (values .0) out)
-repliedTold (reply.Count number, out) = lineOf count (number .0 ∷ []) []
-repliedTold (reply.Holds there, out) = lineOf flag (cond there 1 0 ∷ []) []
+unfoldable pub repliedAnswer : Reply × List ℕ → List ℕ
+repliedAnswer (reply.Refused number, out) = refusalBytes number
+repliedAnswer (reply.TooLong needed, out) = refusalBytes 11
+repliedAnswer (reply.Total high low, out) = lineOf sum (high ∷ low ∷ []) []
+repliedAnswer (reply.Flag on, out) = lineOf flag (cond on 1 0 ∷ []) []
+repliedAnswer (reply.List values, out) = listBytes (take (values .0) out)
+repliedAnswer (reply.Count number, out) = lineOf count (number .0 ∷ []) []
+repliedAnswer (reply.Holds there, out) = lineOf flag (cond there 1 0 ∷ []) []
 
 -- "`60` prints the saved lines only": the line that saving gives at a place, or the end; a refusal is one line.
-unfoldable pub savedTold : List ℕ → ℕ → Saved × List ℕ → Answered × (List ℕ × List ℕ)
-savedTold words place (saved.Refused number, out) = let told = printedAt (refusalBytes number ∷ []) place out in (told .0, (words, told .1))
-savedTold words place (saved.Line characters, out) = (answered.Line characters, (words, out))
-savedTold words place (saved.End, out) = (answered.End, (words, out))
+unfoldable pub savedAnswer : List ℕ → ℕ → Saved × List ℕ → Answered × (List ℕ × List ℕ)
+savedAnswer words place (saved.Refused number, out) = let told = printedAt (refusalBytes number ∷ []) place out in (told .0, (words, told .1))
+savedAnswer words place (saved.Line characters, out) = (answered.Line characters, (words, out))
+savedAnswer words place (saved.End, out) = (answered.End, (words, out))
 
 -- The answer to a line of each type is what the call of that type answers: on any space, with room for every frame, every list and every line of a form.
 pub record ByType (line words : List ℕ) : Type 0 where
   pub frame : typeOf line ≡ operation .typeByte → answerOf line words ≡ changing receivedBytes (receivedBy line words)
-  pub local : typeOf line ≡ issue .typeByte → (hexLine (answerOf line words .0), answerOf line words .1) ≡ issuedTold (calls.issuedBy line words (zeros longestFrame))
+  pub local : typeOf line ≡ issue .typeByte → (hexLine (answerOf line words .0), answerOf line words .1) ≡ issuedAnswer (calls.issuedBy line words (zeros longestFrame))
   pub settled : typeOf line ≡ settling .typeByte → answerOf line words ≡ changing settledBytes (settledBy line words)
-  pub asked : typeOf line ≡ question .typeByte → answerOf line words ≡ (repliedTold (repliedBy line words (zeros greatestCapacity)), words)
+  pub asked : typeOf line ≡ question .typeByte → answerOf line words ≡ (repliedAnswer (repliedBy line words (zeros greatestCapacity)), words)
   pub opened : typeOf line ≡ opening .typeByte → holdsTable words ≡ false → answerOf line words ≡ changing openedBytes (openedBy line words)
   pub second : typeOf line ≡ opening .typeByte → holdsTable words ≡ true → answerOf line words ≡ (secondOpening line, words)
   -- that answer is the one output line
   pub one-line : typeOf line ≢ printing .typeByte → linesFor line words ≡ answerOf line words .0 ∷ []
   -- each output line for a line of type `60` is what saving gives at its place, until the end, and the table space stays
-  pub form : typeOf line ≡ printing .typeByte → (place : ℕ) (out : List ℕ) → length out ≡ longestAnswer → answeredBy line place words out ≡ savedTold words place (savedBy line words place out)
+  pub form : typeOf line ≡ printing .typeByte → (place : ℕ) (out : List ℕ) → length out ≡ longestAnswer → answeredBy line place words out ≡ savedAnswer words place (savedBy line words place out)
   -- so it is the whole form, 14, or 1
   pub whole-form : isLineOf printing 0 line ≡ true → holdsTable words ≡ true → linesFor line words ≡ savedForm (tableOf words)
   pub no-form : typeOf line ≡ printing .typeByte → holdsTable words ≡ false → linesFor line words ≡ refusalBytes 14 ∷ []

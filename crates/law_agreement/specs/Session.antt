@@ -17,12 +17,12 @@ use Rattle.line_shape.specs.Reading.{entries, fieldsRead, hasShape, padded, sta
 use Rattle.line_put.specs.Writing.{lineBytes, writtenEach}
 use Rattle.line_read.specs.Types.{isOf, lineRead}
 use Rattle.line_read.specs.Named.{issueRead, openingRead, operationRead, questionRead, settlingRead}
-use Rattle.line_decode.specs.Hearing.{bytesOf, typeOf}
+use Rattle.line_decode.specs.Decoding.{bytesOf, typeOf}
 use Rattle.line_decode.specs.Text.{characters, lineSaying}
 use Rattle.form_lines.specs.FormLines.{closingLine, clockLine, lastLine, openingLine, rowLine, totalLine}
 use Rattle.form_write.specs.Forms.{lastLines, rowLines, savedForm, totalLines}
-use Rattle.call_question.specs.Telling.{listBytes, refusalBytes, replyBytes}
-use Rattle.call_checked.specs.Spoken.{frameBytes, frameOf, headerRead, localOf, openedAs, openedBy, receivedAs, receivedOn, settledAs, settledOn}
+use Rattle.call_question.specs.AnswerBytes.{listBytes, refusalBytes, replyBytes}
+use Rattle.call_checked.specs.Called.{frameBytes, frameOf, headerRead, localOf, openedAs, openedBy, receivedAs, receivedOn, settledAs, settledOn}
 use Rattle.call_answer.specs.Answering.{answerOn, doneBytes, issueAnswer, issuedBytes, openedBytes, questionAnswer, receivedBytes, secondOpening, settledBytes}
 use lib.ListN.{length, take}
 use Rattle.calls.specs.declared.Answered.{Answered}

@@ -11,9 +11,9 @@ use Rattle.words_layout.specs.Layout.{tableOf}
 use Rattle.line_hex.specs.Choice.{pick}
 use Rattle.line_hex.specs.Hex.{hexLine}
 use Rattle.line_read.specs.Named.{issueRead, operationRead, settlingRead}
-use Rattle.line_decode.specs.Hearing.{bytesOf}
+use Rattle.line_decode.specs.Decoding.{bytesOf}
 use Rattle.calls.specs.Calls as calls
-use Rattle.call_checked.specs.Spoken.{frameBytes, frameOf, localOf}
+use Rattle.call_checked.specs.Called.{frameBytes, frameOf, localOf}
 use Rattle.calls.specs.Calls.{receivedBy, settledBy}
 
 -- A call that may change a table, with any line; a local operation with any frame space. A question changes nothing.

@@ -18,10 +18,10 @@ use Rattle.line_hex.specs.Choice.{pick}
 use Rattle.line_hex.specs.Hex.{hexLine}
 use Rattle.line_put.specs.Writing.{lineWritten}
 use Rattle.line_read.specs.Named.{issueRead, operationRead}
-use Rattle.line_decode.specs.Hearing.{bytesOf}
+use Rattle.line_decode.specs.Decoding.{bytesOf}
 use Rattle.call_checked.specs.declared.Issued.the-variants as issued
 use Rattle.call_checked.specs.declared.Received.the-variants as received
-use Rattle.call_checked.specs.Spoken.{frameBytes, frameOf, framedAs, issuedAs, issuedOn, localOf, receivedAs, receivedOn}
+use Rattle.call_checked.specs.Called.{frameBytes, frameOf, framedAs, issuedAs, issuedOn, localOf, receivedAs, receivedOn}
 use Rattle.calls.specs.Calls as calls
 use Rattle.calls.specs.Calls.{receivedBy}
 use Rattle.law_agreement.specs.Conditions.{numberOfIssued, numberOfReceived}

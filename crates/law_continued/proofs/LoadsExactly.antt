@@ -17,7 +17,7 @@ use Rattle.line_shape.specs.Shapes.{lengthOf}
 use Rattle.line_read.specs.Types.{headOf, isOf, opening}
 use Rattle.line_read.specs.Named.{countOf}
 use Rattle.line_read.specs.SavedNamed.{closingRead, rowRead}
-use Rattle.line_decode.specs.Hearing.{bytesOf, typeOf}
+use Rattle.line_decode.specs.Decoding.{bytesOf, typeOf}
 use Rattle.call_checked.specs.declared.Opened.the-variants as opened
 use Rattle.form_take.specs.declared.Loaded.{Loaded}
 use Rattle.form_take.specs.declared.Loaded.the-variants as loaded

@@ -18,12 +18,12 @@ use Rattle.line_hex.specs.Choice.{pick}
 use Rattle.line_hex.specs.Hex.{hexLine}
 use Rattle.line_read.specs.Types.{question}
 use Rattle.line_read.specs.Named.{questionRead}
-use Rattle.line_decode.specs.Hearing.{bytesOf, typeOf}
+use Rattle.line_decode.specs.Decoding.{bytesOf, typeOf}
 use Rattle.form_write.specs.Forms.{rowLines, savedForm, totalLines}
 use Rattle.form_write.proofs.Agreeing.{equal-lines}
-use Rattle.call_question.specs.Telling.{refusalBytes, replyBytes}
+use Rattle.call_question.specs.AnswerBytes.{refusalBytes, replyBytes}
 use Rattle.call_answer.specs.Answering.{questionAnswer}
-use Rattle.call_checked.specs.Spoken.{headerRead}
+use Rattle.call_checked.specs.Called.{headerRead}
 use Rattle.form_take.specs.declared.Loaded.{Loaded}
 use Rattle.form_load.specs.Loading.{loadedAll, loadedBy, underLoad}
 use Rattle.law_round_trip.specs.Restoring.{loads}

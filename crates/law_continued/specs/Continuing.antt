@@ -11,10 +11,10 @@ use Rattle.words_layout.specs.Layout.{capacityIn, sizeIn, spaceFor, tableOf}
 use Rattle.line_hex.specs.Choice.{pick}
 use Rattle.line_hex.specs.Hex.{hexLine}
 use Rattle.line_read.specs.Named.{issueRead, operationRead}
-use Rattle.line_decode.specs.Hearing.{bytesOf}
+use Rattle.line_decode.specs.Decoding.{bytesOf}
 use Rattle.form_write.specs.Forms.{savedForm}
 use Rattle.form_load.specs.Loading.{loadedAll, underLoad}
-use Rattle.call_checked.specs.Spoken.{frameOf, localOf}
+use Rattle.call_checked.specs.Called.{frameOf, localOf}
 use Rattle.calls.specs.Answers.{answerOf}
 use Rattle.calls.specs.Calls as calls
 use Rattle.calls.specs.Calls.{receivedBy}

@@ -11,7 +11,7 @@ use Rattle.table_rules.specs.TableTests.{clockIn, kindsIn}
 use Rattle.table_rules_clock.specs.ClockTests.{lastKept, totalKept}
 use Rattle.line_hex.specs.Choice.{pick}
 use Rattle.line_read.specs.SavedNamed.{clockRead, closingRead, lastRead, rowRead, totalRead}
-use Rattle.line_decode.specs.Hearing.{typeOf}
+use Rattle.line_decode.specs.Decoding.{typeOf}
 use Rattle.form_take.specs.declared.Loaded.{Loaded}
 use Rattle.form_take.specs.declared.Loaded.the-variants as loaded
 use Rattle.form_row.specs.Joining.{joined, joins, rowSaid}

@@ -27,8 +27,8 @@ use Rattle.line_read.specs.Types.{lastVector}
 use Rattle.line_read.proofs.Lengths.{line-length}
 use Rattle.line_read.specs.SavedNamed.{clockRead, lastRead, totalRead}
 use Rattle.line_read.proofs.SavedNamed.{last-reads-back}
-use Rattle.line_decode.specs.Hearing.{bytesOf}
-use Rattle.line_decode.proofs.Hearing.{bytes-back}
+use Rattle.line_decode.specs.Decoding.{bytesOf}
+use Rattle.line_decode.proofs.Decoding.{bytes-back}
 use Rattle.form_lines.specs.FormLines.{clockLine, closingLine, lastLine, totalLine}
 use Rattle.form_write.proofs.Short.{clock-short, total-short}
 use Rattle.form_write.proofs.ReadsBack.{below-every, clock-back, fit-each, total-back}

@@ -22,7 +22,7 @@ use Rattle.arrival.proofs.Kept.{laid-held}
 use Rattle.line_read.specs.Types.{headOf, lineRead, row}
 use Rattle.line_read.specs.SavedNamed.{closingRead, rowRead}
 use Rattle.line_read.proofs.SavedNamed.{closing-only-spelling}
-use Rattle.line_decode.specs.Hearing.{bytesOf}
+use Rattle.line_decode.specs.Decoding.{bytesOf}
 use Rattle.form_lines.specs.FormLines.{clockLine, closingLine, lastLine, rowLine, totalLine}
 use Rattle.form_take.specs.declared.Loaded.{Loaded}
 use Rattle.form_take.specs.declared.Loaded.the-variants as loaded

@@ -26,8 +26,8 @@ use Rattle.line_hex.specs.Hex.{hexLine}
 use Rattle.line_hex.specs.Numbers.{AllBytes}
 use Rattle.line_read.specs.Types.{clock, lastVector, total}
 use Rattle.line_read.proofs.Spelling.{all-bytes-line-of}
-use Rattle.line_decode.specs.Hearing.{bytesOf}
-use Rattle.line_decode.proofs.Hearing.{bytes-back}
+use Rattle.line_decode.specs.Decoding.{bytesOf}
+use Rattle.line_decode.proofs.Decoding.{bytes-back}
 use Rattle.line_read.specs.SavedNamed.{clockRead, lastRead, totalRead}
 use Rattle.form_lines.specs.FormLines.{clockLine, lastLine, totalLine}
 use Rattle.form_write.specs.Forms.{linesOf, lastLines, totalLines}

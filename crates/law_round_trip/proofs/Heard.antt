@@ -24,7 +24,7 @@ use Rattle.line_shape.proofs.Spelling.{length-read}
 use Rattle.line_put.specs.Writing.{lineBytes}
 use Rattle.line_read.specs.Types.{Line, headOf, lineOf, lineRead}
 use Rattle.line_read.specs.SavedNamed.{rowRead, totalRead}
-use Rattle.line_decode.specs.Hearing.{bytesOf}
+use Rattle.line_decode.specs.Decoding.{bytesOf}
 
 pub heard-bytes : (line : List ℕ) → AllBytes (bytesOf line)
 unfolding bytesOf pairs

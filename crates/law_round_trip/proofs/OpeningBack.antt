@@ -19,9 +19,9 @@ use Rattle.line_read.specs.Types.{lineOf, opening}
 use Rattle.line_read.specs.Named.{openingRead}
 use Rattle.line_read.proofs.Taken.{opening-only-spelling}
 use Rattle.line_read.proofs.Longest.{opening-size}
-use Rattle.line_decode.specs.Hearing.{bytesOf, typeOf}
+use Rattle.line_decode.specs.Decoding.{bytesOf, typeOf}
 use Rattle.form_lines.specs.FormLines.{openingLine}
-use Rattle.call_checked.specs.Spoken.{headerRead, openedAs, openedBy}
+use Rattle.call_checked.specs.Called.{headerRead, openedAs, openedBy}
 use Rattle.call_checked.proofs.Opening.{open-ranges, open-room}
 use Rattle.form_take.specs.declared.Loaded.{Loaded}
 use Rattle.form_load.specs.Loading.{begun, firstTaken, loadedBy, savedType, underLoad}

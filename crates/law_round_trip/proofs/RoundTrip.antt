@@ -33,8 +33,8 @@ use Rattle.line_shape.specs.Shapes.{lengthOf, read, written}
 use Rattle.line_put.specs.Writing.{lineBytes}
 use Rattle.line_read.specs.Types.{opening, row, closing, headOf, lineRead}
 use Rattle.line_read.proofs.Spelling.{all-bytes-line-of}
-use Rattle.line_decode.specs.Hearing.{bytesOf, typeOf}
-use Rattle.line_decode.proofs.Hearing.{bytes-back}
+use Rattle.line_decode.specs.Decoding.{bytesOf, typeOf}
+use Rattle.line_decode.proofs.Decoding.{bytes-back}
 use Rattle.line_read.specs.SavedNamed.{closingRead, rowRead}
 use Rattle.form_lines.specs.FormLines.{openingLine, clockLine, rowLine, closingLine}
 use Rattle.form_lines.proofs.Parts.{row-small}
@@ -42,7 +42,7 @@ use Rattle.form_write.specs.Forms.{lastLines, rowLines, savedForm, totalLines}
 use Rattle.form_write.proofs.Short.{closing-short, opening-short, row-short}
 use Rattle.form_write.proofs.ReadsBack.{closing-back, kinds-back, opening-back, row-back, row-known}
 use Rattle.call_checked.specs.declared.Opened.the-variants as called
-use Rattle.call_checked.specs.Spoken.{headerRead, openedAs, openedBy}
+use Rattle.call_checked.specs.Called.{headerRead, openedAs, openedBy}
 use Rattle.form_take.specs.declared.Loaded.the-variants as loaded
 use Rattle.form_load.specs.declared.Next.the-variants as next
 use Rattle.form_load.specs.Loading.{begun, firstTaken, loadedBy, nextAfter, underLoad}

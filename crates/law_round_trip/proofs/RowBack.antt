@@ -29,7 +29,7 @@ use Rattle.line_read.specs.declared.Row as saved
 use Rattle.line_read.specs.SavedNamed.{closingRead, rowRead}
 use Rattle.line_read.proofs.SavedNamed.{closing-only-spelling, row-only-spelling}
 use Rattle.line_read.proofs.Vectors.{row-vector}
-use Rattle.line_decode.specs.Hearing.{bytesOf}
+use Rattle.line_decode.specs.Decoding.{bytesOf}
 use Rattle.form_lines.specs.FormLines.{closingLine, rowLine}
 use Rattle.form_take.specs.declared.Loaded.{Loaded}
 use Rattle.form_take.specs.declared.Loaded.the-variants as loaded

@@ -27,7 +27,7 @@ use Rattle.line_shape.specs.Reading as shapes
 use Rattle.line_read.specs.declared.Row as saved
 use Rattle.line_read.specs.declared.Closing.{Closing}
 use Rattle.line_read.specs.SavedNamed.{closingRead, rowRead}
-use Rattle.line_decode.specs.Hearing.{bytesOf}
+use Rattle.line_decode.specs.Decoding.{bytesOf}
 use Rattle.form_lines.proofs.Parts.{piece-at}
 use Rattle.form_take.specs.declared.Loaded.the-variants as loaded
 use Rattle.form_load.specs.declared.Next.the-variants as next

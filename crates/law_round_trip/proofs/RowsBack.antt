@@ -13,7 +13,7 @@ use Rattle.words_layout.specs.Layout.{holdsTable, tableOf, wordsOf}
 use Rattle.words_layout.proofs.Reading.{table-read}
 use Rattle.line_hex.specs.Hex.{hexLine}
 use Rattle.line_read.specs.SavedNamed.{rowRead}
-use Rattle.line_decode.specs.Hearing.{bytesOf}
+use Rattle.line_decode.specs.Decoding.{bytesOf}
 use Rattle.form_lines.specs.FormLines.{closingLine, rowLine}
 use Rattle.form_take.specs.declared.Loaded.{Loaded}
 use Rattle.form_load.specs.declared.Next.the-variants as next

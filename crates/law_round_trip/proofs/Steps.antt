@@ -23,7 +23,7 @@ use Rattle.line_read.specs.declared.Clock.{Clock}
 use Rattle.line_read.specs.declared.LastVector.{LastVector}
 use Rattle.line_read.specs.declared.Total.{Total}
 use Rattle.line_read.specs.SavedNamed.{clockRead, lastRead, totalRead}
-use Rattle.line_decode.specs.Hearing.{bytesOf}
+use Rattle.line_decode.specs.Decoding.{bytesOf}
 use Rattle.form_take.specs.declared.Loaded.the-variants as loaded
 use Rattle.form_load.specs.declared.Next.the-variants as next
 use Rattle.form_take.specs.Taking.{clockTaken, lastTaken, spoilt, took, totalTaken}

@@ -31,7 +31,7 @@ use Rattle.line_read.specs.declared.Total.{Total}
 use Rattle.line_read.specs.SavedNamed.{clockRead, lastRead, totalRead}
 use Rattle.line_read.proofs.SavedNamed.{clock-only-spelling, last-only-spelling, total-only-spelling}
 use Rattle.line_read.proofs.Vectors.{clock-vector, last-vector}
-use Rattle.line_decode.specs.Hearing.{bytesOf}
+use Rattle.line_decode.specs.Decoding.{bytesOf}
 use Rattle.form_lines.specs.FormLines.{clockLine, lastLine, totalLine}
 use Rattle.form_take.specs.declared.Loaded.{Loaded}
 use Rattle.form_take.specs.declared.Loaded.the-variants as loaded

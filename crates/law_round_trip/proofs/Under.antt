@@ -16,7 +16,7 @@ use Rattle.words_layout.specs.Layout.{Laid, tableMark, tableOf, wordsOf, rewrit
 use Rattle.words_layout.proofs.Reading.{Well, table-read}
 use Rattle.words_layout.proofs.Changing.{Sized, laid-again, words-long}
 use Rattle.table_rules.specs.TableTests.{clockIn, kindsIn, sizesKept}
-use Rattle.line_decode.specs.Hearing.{bytesOf}
+use Rattle.line_decode.specs.Decoding.{bytesOf}
 use Rattle.form_take.specs.declared.Loaded.the-variants as loaded
 use Rattle.form_load.specs.declared.Next.{Next}
 use Rattle.form_load.specs.declared.Next.the-variants as next

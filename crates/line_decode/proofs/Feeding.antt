@@ -12,7 +12,7 @@ use lib.Seq.{drop-cons}
 use Rattle.line_hex.specs.Choice.{pick}
 use Rattle.line_hex.specs.Hex.{lf}
 use Rattle.line_hex.specs.Keeping.{kept, keptAll, keptOf}
-use Rattle.line_decode.specs.Hearing.{bytesOf, typeOf}
+use Rattle.line_decode.specs.Decoding.{bytesOf, typeOf}
 use Rattle.line_decode.specs.Feeding.{afterLines, atEnd, fed, Going, heldFed, heldOn, heldTaken, Keeps, LastPiece, lineOn, NoLf, restOf, taken, WholeLines}
 use Rattle.line_decode.proofs.Keeping.{kept-all-within, kept-append, kept-within, length-kept-all, no-lf-on, nowhere, only-last, some-kept}
 use Rattle.line_decode.proofs.Said.{kept-bytes, kept-type}

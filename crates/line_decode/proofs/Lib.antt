@@ -1,4 +1,4 @@
-pub mod Hearing
+pub mod Decoding
 pub mod Keeping
 pub mod Said
 pub mod Feeding

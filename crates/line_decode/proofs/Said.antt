@@ -14,7 +14,7 @@ use Rattle.line_hex.specs.declared.Decoded.{Decoded}
 use Rattle.line_hex.specs.declared.Decoded.the-variants.{Bytes, Malformed}
 use Rattle.line_hex.proofs.Keeping.{kept-decoded, kept-is-cut}
 use Rattle.line_hex.proofs.Spelling.{cut-type}
-use Rattle.line_decode.specs.Hearing.{bytesOf, byteOfType, typeOf}
+use Rattle.line_decode.specs.Decoding.{bytesOf, byteOfType, typeOf}
 
 -- what is decoded alike says the same bytes
 abbrev saidBy : Decoded → List ℕ → List ℕ

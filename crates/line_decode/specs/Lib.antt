@@ -1,3 +1,3 @@
-pub mod Hearing
+pub mod Decoding
 pub mod Text
 pub mod Feeding

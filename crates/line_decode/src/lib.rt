@@ -3,7 +3,7 @@
 ghost use mathlib.Core.Path.{_≡_};
 ghost use Rattle.line_hex.specs.Decoding.{decoded};
 ghost use Rattle.line_read.specs.Named.{issueRead, openingRead, operationRead, printingRead, questionRead, settlingRead};
-ghost use Rattle.line_decode.specs.Hearing.{bytesOf, heardIn, typeOf};
+ghost use Rattle.line_decode.specs.Decoding.{bytesOf, decodedInto, typeOf};
 use line_hex::Decoded;
 use line_hex::LineType;
 
@@ -11,8 +11,8 @@ use line_hex::LineType;
 const NO_TYPE: u8 = 0;
 
 // Reads a line into a buffer; how many bytes it has, and none where it is no line.
-pub fn hear(line: &[u8], into: &mut [u8; line_read::LONGEST]) -> usize
-    ensures { λ r. ⌜ (r, now (into .exit)) ≡ heardIn (now (line .entry)) (now (into .entry)) ⌝ }
+pub fn decode_line(line: &[u8], into: &mut [u8; line_read::LONGEST]) -> usize
+    ensures { λ r. ⌜ (r, now (into .exit)) ≡ decodedInto (now (line .entry)) (now (into .entry)) ⌝ }
 {
     match line_hex::decode(line, into) {
         Decoded::Bytes(n) => n,
@@ -25,7 +25,7 @@ pub fn is_opening(line: &[u8]) -> bool
     ensures { λ r. ⌜ r ≡ openingRead (bytesOf (now (line .entry))) .ok ⌝ }
 {
     let mut bytes = [0u8; line_read::LONGEST];
-    let n = hear(line, &mut bytes);
+    let n = decode_line(line, &mut bytes);
     let asked = line_read::read_opening(&bytes[0..n]);
     asked.ok
 }
@@ -34,7 +34,7 @@ pub fn operation(line: &[u8]) -> line_read::Operation
     ensures { λ r. ⌜ r ≡ operationRead (bytesOf (now (line .entry))) ⌝ }
 {
     let mut bytes = [0u8; line_read::LONGEST];
-    let n = hear(line, &mut bytes);
+    let n = decode_line(line, &mut bytes);
     line_read::read_operation(&bytes[0..n])
 }
 
@@ -42,7 +42,7 @@ pub fn issue(line: &[u8]) -> line_read::Issue
     ensures { λ r. ⌜ r ≡ issueRead (bytesOf (now (line .entry))) ⌝ }
 {
     let mut bytes = [0u8; line_read::LONGEST];
-    let n = hear(line, &mut bytes);
+    let n = decode_line(line, &mut bytes);
     line_read::read_issue(&bytes[0..n])
 }
 
@@ -50,7 +50,7 @@ pub fn settling(line: &[u8]) -> line_read::Settling
     ensures { λ r. ⌜ r ≡ settlingRead (bytesOf (now (line .entry))) ⌝ }
 {
     let mut bytes = [0u8; line_read::LONGEST];
-    let n = hear(line, &mut bytes);
+    let n = decode_line(line, &mut bytes);
     line_read::read_settling(&bytes[0..n])
 }
 
@@ -58,7 +58,7 @@ pub fn question(line: &[u8]) -> line_read::Question
     ensures { λ r. ⌜ r ≡ questionRead (bytesOf (now (line .entry))) ⌝ }
 {
     let mut bytes = [0u8; line_read::LONGEST];
-    let n = hear(line, &mut bytes);
+    let n = decode_line(line, &mut bytes);
     line_read::read_question(&bytes[0..n])
 }
 
@@ -66,7 +66,7 @@ pub fn printing(line: &[u8]) -> bool
     ensures { λ r. ⌜ r ≡ printingRead (bytesOf (now (line .entry))) ⌝ }
 {
     let mut bytes = [0u8; line_read::LONGEST];
-    let n = hear(line, &mut bytes);
+    let n = decode_line(line, &mut bytes);
     line_read::read_printing(&bytes[0..n])
 }
 

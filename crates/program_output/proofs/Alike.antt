@@ -2,8 +2,8 @@
 use mathlib.Core.Path.{_≡_, refl}
 use mathlib.Core.List.{List}
 use Prim.Native.Nat.{ℕ}
-use Rattle.line_decode.specs.Hearing.{bytesOf, typeOf}
-use Rattle.call_checked.specs.Spoken.{openedBy, receivedOn, settledOn}
+use Rattle.line_decode.specs.Decoding.{bytesOf, typeOf}
+use Rattle.call_checked.specs.Called.{openedBy, receivedOn, settledOn}
 use Rattle.call_answer.specs.Answering.{answerOn, issueAnswer, questionAnswer, secondOpening}
 use Rattle.calls.specs.Answers.{answerOf, linesFor}
 use Rattle.program_output.specs.Gathering.{Held, replied}

@@ -12,7 +12,7 @@ use Rattle.line_hex.specs.Choice.{pick}
 use Rattle.line_hex.specs.Hex.{hexLine}
 use Rattle.line_put.proofs.Whole.{length-hex-line}
 use Rattle.line_read.specs.Named.{printingRead}
-use Rattle.line_decode.specs.Hearing.{bytesOf}
+use Rattle.line_decode.specs.Decoding.{bytesOf}
 use Rattle.form_write.specs.Forms.{savedForm}
 use Rattle.form_write.proofs.Short.{Short, form-short}
 use Rattle.call_answer.proofs.Short.{refusal-short}

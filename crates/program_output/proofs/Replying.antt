@@ -11,7 +11,7 @@ use Rattle.meaning.proofs.Tests.{cases}
 use Rattle.words_layout.specs.Layout.{holdsTable, tableOf}
 use Rattle.line_hex.specs.Choice.{pick}
 use Rattle.line_read.specs.Named.{printingRead}
-use Rattle.line_decode.specs.Hearing.{bytesOf}
+use Rattle.line_decode.specs.Decoding.{bytesOf}
 use Rattle.form_write.specs.Forms.{savedForm}
 use Rattle.calls.specs.declared.Answered.{Answered}
 use Rattle.calls.specs.declared.Answered.the-variants.{Line, End}

@@ -8,8 +8,8 @@ use Rattle.call_answer.proofs.answer_line.Lts as lts
 use Rattle.call_answer.proofs.answer_issue.Reads as answer-issue-reads
 use Rattle.call_answer.proofs.answer_opening.Reads as answer-opening-reads
 use Rattle.call_answer.proofs.answer_question.Reads as answer-question-reads
-use Rattle.call_answer.proofs.tell_received.Reads as tell-received-reads
-use Rattle.call_answer.proofs.tell_settled.Reads as tell-settled-reads
+use Rattle.call_answer.proofs.answer_received.Reads as answer-received-reads
+use Rattle.call_answer.proofs.answer_settled.Reads as answer-settled-reads
 use Rattle.line_print.proofs.write_refusal.Reads as write-refusal-reads
 use Rattle.call_checked.proofs.receive_line.Reads as receive-line-reads
 use Rattle.call_checked.proofs.settle_line.Reads as settle-line-reads
@@ -17,8 +17,8 @@ use Rattle.call_checked.proofs.settle_line.Reads as settle-line-reads
 receive-line-requires : tie.Need-receive-line-requires
 receive-line-requires c κs = search needs
 
-tell-received-requires : tie.Need-tell-received-requires
-tell-received-requires c κs = search needs
+answer-received-requires : tie.Need-answer-received-requires
+answer-received-requires c κs = search needs
 
 same-length : tie.Need-same-length
 same-length c = search needs
@@ -44,8 +44,8 @@ returns-2 c = search answers-issue
 settle-line-requires : tie.Need-settle-line-requires
 settle-line-requires c κs = search needs
 
-tell-settled-requires : tie.Need-tell-settled-requires
-tell-settled-requires c κs = search needs
+answer-settled-requires : tie.Need-answer-settled-requires
+answer-settled-requires c κs = search needs
 
 same-length-5 : tie.Need-same-length-5
 same-length-5 c = search needs
@@ -91,7 +91,7 @@ answer-line-spec =
     tie.close
     (tie.spec
     receive-line-requires
-    tell-received-requires
+    answer-received-requires
     same-length
     same-length-2
     returns
@@ -100,7 +100,7 @@ answer-line-spec =
     same-length-4
     returns-2
     settle-line-requires
-    tell-settled-requires
+    answer-settled-requires
     same-length-5
     same-length-6
     returns-3

@@ -7,13 +7,13 @@ use Rattle.call_answer.proofs.answer_question.Reads as reads
 use Rattle.call_answer.proofs.answer_question.Lts as lts
 use Rattle.line_decode.proofs.question.Reads as question-reads
 use Rattle.line_print.proofs.write_refusal.Reads as write-refusal-reads
-use Rattle.call_question.proofs.tell.Reads as tell-reads
+use Rattle.call_question.proofs.answer_question.Reads as answer-question-reads
 
 question-requires : tie.Need-question-requires
 question-requires c κs = search needs
 
-tell-requires : tie.Need-tell-requires
-tell-requires c κs = search needs
+answer-question-requires : tie.Need-answer-question-requires
+answer-question-requires c κs = search needs
 
 same-length : tie.Need-same-length
 same-length c = search needs
@@ -35,7 +35,7 @@ answer-question-spec =
     tie.close
     (tie.spec
     question-requires
-    tell-requires
+    answer-question-requires
     same-length
     returns
     write-refusal-requires

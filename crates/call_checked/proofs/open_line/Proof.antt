@@ -1,4 +1,4 @@
-use Rattle.line_decode.proofs.Hearing.{heard-room}
+use Rattle.line_decode.proofs.Decoding.{heard-room}
 use Rattle.call_checked.proofs.Opening.{kinds-start, open-misshapen, open-heard}
 use native.Mathlib.Omega.{arith}
 use borrow.Author.Needs.{needs}
@@ -7,11 +7,11 @@ use Rattle.call_checked.proofs.open_line.Tie as tie
 use Rattle.call_checked.proofs.open_line.Reads as reads
 use Rattle.call_checked.proofs.open_line.Lts as lts
 use Rattle.call_checked.proofs.open_with.Reads as open-with-reads
-use Rattle.line_decode.proofs.hear.Reads as hear-reads
+use Rattle.line_decode.proofs.decode_line.Reads as decode-line-reads
 use Rattle.line_read.proofs.read_opening.Reads as read-opening-reads
 
-hear-requires : tie.Need-hear-requires
-hear-requires c κs = search needs
+decode-line-requires : tie.Need-decode-line-requires
+decode-line-requires c κs = search needs
 
 sub-read-opening : tie.Need-sub-read-opening
 sub-read-opening c = search needs
@@ -50,7 +50,7 @@ pub open-line-spec : {M : Type 1} → statement M
 open-line-spec =
     tie.close
     (tie.spec
-    hear-requires
+    decode-line-requires
     sub-read-opening
     part-read-opening-start
     part-read-opening-end

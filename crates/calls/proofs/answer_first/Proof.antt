@@ -7,7 +7,7 @@ use Rattle.calls.proofs.answer_first.Tie as tie
 use Rattle.calls.proofs.answer_first.Reads as reads
 use Rattle.calls.proofs.answer_first.Lts as lts
 use Rattle.call_answer.proofs.answer_line.Reads as answer-line-reads
-use Rattle.call_answer.proofs.tell_opened.Reads as tell-opened-reads
+use Rattle.call_answer.proofs.answer_opened.Reads as answer-opened-reads
 use Rattle.line_decode.proofs.type_of.Reads as type-of-reads
 use Rattle.line_print.proofs.write_refusal.Reads as write-refusal-reads
 use Rattle.table_rules.proofs.is_table.Reads as is-table-reads
@@ -34,8 +34,8 @@ returns c = search first-on
 open-line-requires : tie.Need-open-line-requires
 open-line-requires c κs = search needs
 
-tell-opened-requires : tie.Need-tell-opened-requires
-tell-opened-requires c κs = search needs
+answer-opened-requires : tie.Need-answer-opened-requires
+answer-opened-requires c κs = search needs
 
 same-length-3 : tie.Need-same-length-3
 same-length-3 c = search needs
@@ -69,7 +69,7 @@ answer-first-spec =
     same-length-2
     returns
     open-line-requires
-    tell-opened-requires
+    answer-opened-requires
     same-length-3
     same-length-4
     returns-2

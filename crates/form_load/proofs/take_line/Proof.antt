@@ -1,4 +1,4 @@
-use Rattle.line_decode.proofs.Hearing.{heard-room}
+use Rattle.line_decode.proofs.Decoding.{heard-room}
 use Rattle.form_load.proofs.Loads.{takes-heard}
 use borrow.Author.Needs.{needs}
 use Rattle.form_load.proofs.take_line.Statement.{statement}

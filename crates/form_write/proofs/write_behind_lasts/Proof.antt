@@ -7,7 +7,7 @@ use Rattle.form_write.proofs.write_behind_lasts.Reads as reads
 use Rattle.form_write.proofs.write_behind_lasts.Lts as lts
 use Rattle.form_lines.proofs.write_total.Reads as write-total-reads
 use Rattle.form_write.proofs.counter.Reads as counter-reads
-use Rattle.form_write.proofs.told.Reads as told-reads
+use Rattle.form_write.proofs.as_formed.Reads as as-formed-reads
 use Rattle.form_write.proofs.write_behind_totals.Reads as write-behind-totals-reads
 use Rattle.words_tags.proofs.wide.Reads as wide-reads
 
@@ -41,8 +41,8 @@ cast-write-total c = search object-fits
 write-total-requires : tie.Need-write-total-requires
 write-total-requires c κs = (search needs, search object-below)
 
-told-requires : tie.Need-told-requires
-told-requires c κs = search needs
+as-formed-requires : tie.Need-as-formed-requires
+as-formed-requires c κs = search needs
 
 enum-known-left : tie.Need-enum-known-left
 enum-known-left c = search needs
@@ -76,7 +76,7 @@ write-behind-lasts-spec =
     enum-known-object
     cast-write-total
     write-total-requires
-    told-requires
+    as-formed-requires
     enum-known-left
     write-behind-totals-requires
     same-length

@@ -7,7 +7,7 @@ use Rattle.form_write.proofs.write_behind_totals.Reads as reads
 use Rattle.form_write.proofs.write_behind_totals.Lts as lts
 use Rattle.form_lines.proofs.write_closing.Reads as write-closing-reads
 use Rattle.form_lines.proofs.write_row.Reads as write-row-reads
-use Rattle.form_write.proofs.told.Reads as told-reads
+use Rattle.form_write.proofs.as_formed.Reads as as-formed-reads
 use Rattle.words_tags.proofs.wide.Reads as wide-reads
 
 shared-slice-read-wide : tie.Need-shared-slice-read-wide
@@ -22,8 +22,8 @@ cast-t9 c = search needs
 write-row-requires : tie.Need-write-row-requires
 write-row-requires c κs = search needs
 
-told-requires : tie.Need-told-requires
-told-requires c κs = search needs
+as-formed-requires : tie.Need-as-formed-requires
+as-formed-requires c κs = search needs
 
 same-length : tie.Need-same-length
 same-length c = search needs
@@ -34,8 +34,8 @@ returns c = search row-told
 write-closing-requires : tie.Need-write-closing-requires
 write-closing-requires c κs = search needs
 
-told-requires-2 : tie.Need-told-requires-2
-told-requires-2 c κs = search needs
+as-formed-requires-2 : tie.Need-as-formed-requires-2
+as-formed-requires-2 c κs = search needs
 
 same-length-2 : tie.Need-same-length-2
 same-length-2 c = search needs
@@ -54,11 +54,11 @@ write-behind-totals-spec =
     wide-requires
     cast-t9
     write-row-requires
-    told-requires
+    as-formed-requires
     same-length
     returns
     write-closing-requires
-    told-requires-2
+    as-formed-requires-2
     same-length-2
     returns-2
     returns-3)

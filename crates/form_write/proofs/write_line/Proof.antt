@@ -10,15 +10,15 @@ use Rattle.form_lines.proofs.write_clock.Reads as write-clock-reads
 use Rattle.form_lines.proofs.write_last.Reads as write-last-reads
 use Rattle.form_lines.proofs.write_opening.Reads as write-opening-reads
 use Rattle.form_write.proofs.other.Reads as other-reads
-use Rattle.form_write.proofs.told.Reads as told-reads
+use Rattle.form_write.proofs.as_formed.Reads as as-formed-reads
 use Rattle.form_write.proofs.write_behind_lasts.Reads as write-behind-lasts-reads
 use Rattle.words_tags.proofs.wide.Reads as wide-reads
 
 write-opening-requires : tie.Need-write-opening-requires
 write-opening-requires c κs = search needs
 
-told-requires : tie.Need-told-requires
-told-requires c κs = search needs
+as-formed-requires : tie.Need-as-formed-requires
+as-formed-requires c κs = search needs
 
 same-length : tie.Need-same-length
 same-length c = search needs
@@ -29,8 +29,8 @@ returns c = search opening-told
 write-clock-requires : tie.Need-write-clock-requires
 write-clock-requires c κs = search needs
 
-told-requires-2 : tie.Need-told-requires-2
-told-requires-2 c κs = search needs
+as-formed-requires-2 : tie.Need-as-formed-requires-2
+as-formed-requires-2 c κs = search needs
 
 same-length-2 : tie.Need-same-length-2
 same-length-2 c = search needs
@@ -62,8 +62,8 @@ other-requires c κs = search needs
 write-last-requires : tie.Need-write-last-requires
 write-last-requires c κs = (search needs, station-below _ (c .before .before .before .before .before .before .before .before .before .before .pre) [] _ (c .before .before .before .before .before .before .before .if1 .left) (c .before .before .before .before .before .before .if2 .left) _ (c .before .before .before .before .wide .ensures .0) (search needs) _ (c .before .other .ensures))
 
-told-requires-3 : tie.Need-told-requires-3
-told-requires-3 c κs = search needs
+as-formed-requires-3 : tie.Need-as-formed-requires-3
+as-formed-requires-3 c κs = search needs
 
 same-length-3 : tie.Need-same-length-3
 same-length-3 c = search needs
@@ -85,11 +85,11 @@ write-line-spec =
     tie.close
     (tie.spec
     write-opening-requires
-    told-requires
+    as-formed-requires
     same-length
     returns
     write-clock-requires
-    told-requires-2
+    as-formed-requires-2
     same-length-2
     returns-2
     shared-slice-read-wide
@@ -100,7 +100,7 @@ write-line-spec =
     cast-other
     other-requires
     write-last-requires
-    told-requires-3
+    as-formed-requires-3
     same-length-3
     returns-3
     write-behind-lasts-requires

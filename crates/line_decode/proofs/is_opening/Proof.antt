@@ -1,15 +1,15 @@
-use Rattle.line_decode.proofs.Hearing.{heard-room, opening-heard}
+use Rattle.line_decode.proofs.Decoding.{heard-room, opening-heard}
 use native.Mathlib.Omega.{arith}
 use borrow.Author.Needs.{needs}
 use Rattle.line_decode.proofs.is_opening.Statement.{statement}
 use Rattle.line_decode.proofs.is_opening.Tie as tie
 use Rattle.line_decode.proofs.is_opening.Reads as reads
 use Rattle.line_decode.proofs.is_opening.Lts as lts
-use Rattle.line_decode.proofs.hear.Reads as hear-reads
+use Rattle.line_decode.proofs.decode_line.Reads as decode-line-reads
 use Rattle.line_read.proofs.read_opening.Reads as read-opening-reads
 
-hear-requires : tie.Need-hear-requires
-hear-requires c κs = search needs
+decode-line-requires : tie.Need-decode-line-requires
+decode-line-requires c κs = search needs
 
 sub-read-opening : tie.Need-sub-read-opening
 sub-read-opening c = search needs
@@ -30,7 +30,7 @@ pub is-opening-spec : {M : Type 1} → statement M
 is-opening-spec =
     tie.close
     (tie.spec
-    hear-requires
+    decode-line-requires
     sub-read-opening
     part-read-opening-start
     part-read-opening-end

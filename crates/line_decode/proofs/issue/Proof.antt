@@ -1,16 +1,16 @@
 use Rattle.line_read.specs.Named.{issueRead}
-use Rattle.line_decode.proofs.Hearing.{heard-room, reads-heard}
+use Rattle.line_decode.proofs.Decoding.{heard-room, reads-heard}
 use native.Mathlib.Omega.{arith}
 use borrow.Author.Needs.{needs}
 use Rattle.line_decode.proofs.issue.Statement.{statement}
 use Rattle.line_decode.proofs.issue.Tie as tie
 use Rattle.line_decode.proofs.issue.Reads as reads
 use Rattle.line_decode.proofs.issue.Lts as lts
-use Rattle.line_decode.proofs.hear.Reads as hear-reads
+use Rattle.line_decode.proofs.decode_line.Reads as decode-line-reads
 use Rattle.line_read.proofs.read_issue.Reads as read-issue-reads
 
-hear-requires : tie.Need-hear-requires
-hear-requires c κs = search needs
+decode-line-requires : tie.Need-decode-line-requires
+decode-line-requires c κs = search needs
 
 sub-read-issue : tie.Need-sub-read-issue
 sub-read-issue c = search needs
@@ -31,7 +31,7 @@ pub issue-spec : {M : Type 1} → statement M
 issue-spec =
     tie.close
     (tie.spec
-    hear-requires
+    decode-line-requires
     sub-read-issue
     part-read-issue-start
     part-read-issue-end

@@ -1,16 +1,16 @@
 use Rattle.line_read.specs.Named.{operationRead}
-use Rattle.line_decode.proofs.Hearing.{heard-room, reads-heard}
+use Rattle.line_decode.proofs.Decoding.{heard-room, reads-heard}
 use native.Mathlib.Omega.{arith}
 use borrow.Author.Needs.{needs}
 use Rattle.line_decode.proofs.operation.Statement.{statement}
 use Rattle.line_decode.proofs.operation.Tie as tie
 use Rattle.line_decode.proofs.operation.Reads as reads
 use Rattle.line_decode.proofs.operation.Lts as lts
-use Rattle.line_decode.proofs.hear.Reads as hear-reads
+use Rattle.line_decode.proofs.decode_line.Reads as decode-line-reads
 use Rattle.line_read.proofs.read_operation.Reads as read-operation-reads
 
-hear-requires : tie.Need-hear-requires
-hear-requires c κs = search needs
+decode-line-requires : tie.Need-decode-line-requires
+decode-line-requires c κs = search needs
 
 sub-read-operation : tie.Need-sub-read-operation
 sub-read-operation c = search needs
@@ -31,7 +31,7 @@ pub operation-spec : {M : Type 1} → statement M
 operation-spec =
     tie.close
     (tie.spec
-    hear-requires
+    decode-line-requires
     sub-read-operation
     part-read-operation-start
     part-read-operation-end

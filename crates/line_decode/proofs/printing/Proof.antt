@@ -1,16 +1,16 @@
 use Rattle.line_read.specs.Named.{printingRead}
-use Rattle.line_decode.proofs.Hearing.{heard-room, reads-heard}
+use Rattle.line_decode.proofs.Decoding.{heard-room, reads-heard}
 use native.Mathlib.Omega.{arith}
 use borrow.Author.Needs.{needs}
 use Rattle.line_decode.proofs.printing.Statement.{statement}
 use Rattle.line_decode.proofs.printing.Tie as tie
 use Rattle.line_decode.proofs.printing.Reads as reads
 use Rattle.line_decode.proofs.printing.Lts as lts
-use Rattle.line_decode.proofs.hear.Reads as hear-reads
+use Rattle.line_decode.proofs.decode_line.Reads as decode-line-reads
 use Rattle.line_read.proofs.read_printing.Reads as read-printing-reads
 
-hear-requires : tie.Need-hear-requires
-hear-requires c κs = search needs
+decode-line-requires : tie.Need-decode-line-requires
+decode-line-requires c κs = search needs
 
 sub-read-printing : tie.Need-sub-read-printing
 sub-read-printing c = search needs
@@ -31,7 +31,7 @@ pub printing-spec : {M : Type 1} → statement M
 printing-spec =
     tie.close
     (tie.spec
-    hear-requires
+    decode-line-requires
     sub-read-printing
     part-read-printing-start
     part-read-printing-end

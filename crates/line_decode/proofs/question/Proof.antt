@@ -1,16 +1,16 @@
 use Rattle.line_read.specs.Named.{questionRead}
-use Rattle.line_decode.proofs.Hearing.{heard-room, reads-heard}
+use Rattle.line_decode.proofs.Decoding.{heard-room, reads-heard}
 use native.Mathlib.Omega.{arith}
 use borrow.Author.Needs.{needs}
 use Rattle.line_decode.proofs.question.Statement.{statement}
 use Rattle.line_decode.proofs.question.Tie as tie
 use Rattle.line_decode.proofs.question.Reads as reads
 use Rattle.line_decode.proofs.question.Lts as lts
-use Rattle.line_decode.proofs.hear.Reads as hear-reads
+use Rattle.line_decode.proofs.decode_line.Reads as decode-line-reads
 use Rattle.line_read.proofs.read_question.Reads as read-question-reads
 
-hear-requires : tie.Need-hear-requires
-hear-requires c κs = search needs
+decode-line-requires : tie.Need-decode-line-requires
+decode-line-requires c κs = search needs
 
 sub-read-question : tie.Need-sub-read-question
 sub-read-question c = search needs
@@ -31,7 +31,7 @@ pub question-spec : {M : Type 1} → statement M
 question-spec =
     tie.close
     (tie.spec
-    hear-requires
+    decode-line-requires
     sub-read-question
     part-read-question-start
     part-read-question-end

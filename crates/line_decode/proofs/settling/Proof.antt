@@ -1,16 +1,16 @@
 use Rattle.line_read.specs.Named.{settlingRead}
-use Rattle.line_decode.proofs.Hearing.{heard-room, reads-heard}
+use Rattle.line_decode.proofs.Decoding.{heard-room, reads-heard}
 use native.Mathlib.Omega.{arith}
 use borrow.Author.Needs.{needs}
 use Rattle.line_decode.proofs.settling.Statement.{statement}
 use Rattle.line_decode.proofs.settling.Tie as tie
 use Rattle.line_decode.proofs.settling.Reads as reads
 use Rattle.line_decode.proofs.settling.Lts as lts
-use Rattle.line_decode.proofs.hear.Reads as hear-reads
+use Rattle.line_decode.proofs.decode_line.Reads as decode-line-reads
 use Rattle.line_read.proofs.read_settling.Reads as read-settling-reads
 
-hear-requires : tie.Need-hear-requires
-hear-requires c κs = search needs
+decode-line-requires : tie.Need-decode-line-requires
+decode-line-requires c κs = search needs
 
 sub-read-settling : tie.Need-sub-read-settling
 sub-read-settling c = search needs
@@ -31,7 +31,7 @@ pub settling-spec : {M : Type 1} → statement M
 settling-spec =
     tie.close
     (tie.spec
-    hear-requires
+    decode-line-requires
     sub-read-settling
     part-read-settling-start
     part-read-settling-end

@@ -1,4 +1,4 @@
-use Rattle.line_decode.proofs.Hearing.{type-known, type-unknown}
+use Rattle.line_decode.proofs.Decoding.{type-known, type-unknown}
 use native.Mathlib.Omega.{arith}
 use borrow.Author.Needs.{needs}
 use Rattle.line_decode.proofs.type_of.Statement.{statement}

@@ -18,7 +18,7 @@ use Rattle.line_hex.specs.declared.Decoded.{Decoded}
 use Rattle.line_hex.specs.declared.Decoded.the-variants.{Bytes, Malformed}
 use Rattle.line_read.specs.declared.Opening.{Opening}
 use Rattle.line_read.specs.Named.{openingRead}
-use Rattle.line_decode.specs.Hearing.{byteOfType, bytesOf, heardIn, typeOf}
+use Rattle.line_decode.specs.Decoding.{byteOfType, bytesOf, decodedInto, typeOf}
 
 abbrev bytesIn : Decoded → ℕ
 bytesIn (Bytes n) = n
@@ -29,24 +29,24 @@ module _ (line buffer : List ℕ) (long : length buffer ≡ 261) where
   count-of true = refl
   count-of false = refl
 
-  heard-as : (r : Decoded) (x : List ℕ) → (r, x) ≡ decoded line buffer → (bytesIn r, x) ≡ heardIn line buffer
-  unfolding heardIn bytesOf decoded
+  heard-as : (r : Decoded) (x : List ℕ) → (r, x) ≡ decoded line buffer → (bytesIn r, x) ≡ decodedInto line buffer
+  unfolding decodedInto bytesOf decoded
   heard-as r x e = ap₂ (λ (n : ℕ) (l : List ℕ). (n, l)) (ap (λ (p : Decoded × List ℕ). bytesIn (p .0)) e ∙ rw long (count-of (isLine 261 line))) (ap (λ (p : Decoded × List ℕ). p .1) e)
 
-  pub hears-line : (r : Decoded) (x : List ℕ) (n : ℕ) → (r, x) ≡ decoded line buffer → r ≡ Bytes n → (n, x) ≡ heardIn line buffer
+  pub hears-line : (r : Decoded) (x : List ℕ) (n : ℕ) → (r, x) ≡ decoded line buffer → r ≡ Bytes n → (n, x) ≡ decodedInto line buffer
   hears-line r x n e f = ap (λ (k : ℕ). (k, x)) (sym (ap bytesIn f)) ∙ heard-as r x e
 
-  pub hears-none : (r : Decoded) (x : List ℕ) → (r, x) ≡ decoded line buffer → r ≡ Malformed → (0, x) ≡ heardIn line buffer
+  pub hears-none : (r : Decoded) (x : List ℕ) → (r, x) ≡ decoded line buffer → r ≡ Malformed → (0, x) ≡ decodedInto line buffer
   hears-none r x e f = ap (λ (k : ℕ). (k, x)) (sym (ap bytesIn f)) ∙ heard-as r x e
 
   -- the front of the buffer
-  module _ (n : ℕ) (x : List ℕ) (e : (n, x) ≡ heardIn line buffer) where
+  module _ (n : ℕ) (x : List ℕ) (e : (n, x) ≡ decodedInto line buffer) where
     count-is : n ≡ length (bytesOf line)
-    unfolding heardIn
+    unfolding decodedInto
     count-is = ap (λ (p : ℕ × List ℕ). p .0) e
 
     buffer-is : x ≡ pairs 261 line ++ drop (length (pairs 261 line)) buffer
-    unfolding heardIn decoded
+    unfolding decodedInto decoded
     buffer-is = ap (λ (p : ℕ × List ℕ). p .1) e ∙ rw long refl
 
     pub heard-front : take (n - 0) x ≡ bytesOf line
@@ -66,10 +66,10 @@ module _ (line buffer : List ℕ) (long : length buffer ≡ 261) where
         fewer false = omega arith
 
 -- so what is read there is what is read of the line's bytes
-pub reads-heard : {A : Type 0} (read : List ℕ → A) (line buffer : List ℕ) (n : ℕ) (x : List ℕ) (r : A) → length buffer ≡ 261 → (n, x) ≡ heardIn line buffer → r ≡ read (take (n - 0) x) → r ≡ read (bytesOf line)
+pub reads-heard : {A : Type 0} (read : List ℕ → A) (line buffer : List ℕ) (n : ℕ) (x : List ℕ) (r : A) → length buffer ≡ 261 → (n, x) ≡ decodedInto line buffer → r ≡ read (take (n - 0) x) → r ≡ read (bytesOf line)
 reads-heard read line buffer n x r long e f = f ∙ ap read (heard-front line buffer long n x e)
 
-pub opening-heard : (line buffer : List ℕ) (n : ℕ) (x : List ℕ) (r : Opening) → length buffer ≡ 261 → (n, x) ≡ heardIn line buffer → r ≡ openingRead (take (n - 0) x) → r .ok ≡ openingRead (bytesOf line) .ok
+pub opening-heard : (line buffer : List ℕ) (n : ℕ) (x : List ℕ) (r : Opening) → length buffer ≡ 261 → (n, x) ≡ decodedInto line buffer → r ≡ openingRead (take (n - 0) x) → r .ok ≡ openingRead (bytesOf line) .ok
 opening-heard line buffer n x r long e f = ap (λ (o : Opening). o .ok) (reads-heard openingRead line buffer n x r long e f)
 
 -- the type of a line

@@ -14,8 +14,8 @@ unfoldable pub bytesOf : List ℕ → List ℕ
 bytesOf line = pick (isLine longest line) (pairs longest line) []
 
 -- How many they are, and the buffer, which begins with them.
-unfoldable pub heardIn : List ℕ → List ℕ → ℕ × List ℕ
-heardIn line buffer = (length (bytesOf line), decoded line buffer .1)
+unfoldable pub decodedInto : List ℕ → List ℕ → ℕ × List ℕ
+decodedInto line buffer = (length (bytesOf line), decoded line buffer .1)
 
 -- A line's type is its first two characters if they are lower-case hexadecimal digits; else it has none, and 0 is no type.
 abbrev pub byteOfType : LineType → ℕ

@@ -1,10 +1,10 @@
 use Rattle.call_question.proofs.Told.{too-long-counted, list-counted, refused-told, too-long-told, total-told, flag-told, list-told, number-told, holds-told}
 use native.Mathlib.Omega.{arith}
 use borrow.Author.Needs.{needs}
-use Rattle.call_question.proofs.tell.Statement.{statement}
-use Rattle.call_question.proofs.tell.Tie as tie
-use Rattle.call_question.proofs.tell.Reads as reads
-use Rattle.call_question.proofs.tell.Lts as lts
+use Rattle.call_question.proofs.answer_question.Statement.{statement}
+use Rattle.call_question.proofs.answer_question.Tie as tie
+use Rattle.call_question.proofs.answer_question.Reads as reads
+use Rattle.call_question.proofs.answer_question.Lts as lts
 use Rattle.question.proofs.ask_table.Reads as ask-table-reads
 use Rattle.line_print.proofs.write_count.Reads as write-count-reads
 use Rattle.line_print.proofs.write_flag.Reads as write-flag-reads
@@ -115,8 +115,8 @@ same-length-7 c = search needs
 returns-7 : tie.Need-returns-7
 returns-7 c = search holds-told
 
-pub tell-spec : {M : Type 1} → statement M
-tell-spec =
+pub answer-question-spec : {M : Type 1} → statement M
+answer-question-spec =
     tie.close
     (tie.spec
     sub-ask-table

@@ -1,10 +1,10 @@
 use Rattle.form_write.proofs.Forming.{told-line, told-short}
 use native.Mathlib.Omega.{arith}
 use borrow.Author.Needs.{needs}
-use Rattle.form_write.proofs.told.Statement.{statement}
-use Rattle.form_write.proofs.told.Tie as tie
-use Rattle.form_write.proofs.told.Reads as reads
-use Rattle.form_write.proofs.told.Lts as lts
+use Rattle.form_write.proofs.as_formed.Statement.{statement}
+use Rattle.form_write.proofs.as_formed.Tie as tie
+use Rattle.form_write.proofs.as_formed.Reads as reads
+use Rattle.form_write.proofs.as_formed.Lts as lts
 
 enum-known-w : tie.Need-enum-known-w
 enum-known-w c = search needs
@@ -18,5 +18,5 @@ returns c = search told-line
 returns-2 : tie.Need-returns-2
 returns-2 c = search told-short
 
-pub told-spec : {M : Type 1} → statement M
-told-spec = tie.close (tie.spec enum-known-w enum-told returns returns-2)
+pub as-formed-spec : {M : Type 1} → statement M
+as-formed-spec = tie.close (tie.spec enum-known-w enum-told returns returns-2)

@@ -21,7 +21,7 @@ use Rattle.line_read.specs.declared.Issue.{Issue}
 use Rattle.line_read.specs.declared.Operation.{Operation}
 use Rattle.line_read.specs.Types.{lineOf, operation}
 use Rattle.line_read.specs.Named.{issueRead, openingRead, operationRead, questionRead, settlingRead}
-use Rattle.line_decode.specs.Hearing.{bytesOf}
+use Rattle.line_decode.specs.Decoding.{bytesOf}
 use Rattle.call_checked.specs.declared.Opened.{Opened}
 use Rattle.call_checked.specs.declared.Opened.the-variants as opened
 use Rattle.call_checked.specs.declared.Issued.{Issued}

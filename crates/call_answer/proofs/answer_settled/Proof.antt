@@ -1,10 +1,10 @@
 use Rattle.call_answer.proofs.Saying.{settled-refused, settled-steps}
 use native.Mathlib.Omega.{arith}
 use borrow.Author.Needs.{needs}
-use Rattle.call_answer.proofs.tell_settled.Statement.{statement}
-use Rattle.call_answer.proofs.tell_settled.Tie as tie
-use Rattle.call_answer.proofs.tell_settled.Reads as reads
-use Rattle.call_answer.proofs.tell_settled.Lts as lts
+use Rattle.call_answer.proofs.answer_settled.Statement.{statement}
+use Rattle.call_answer.proofs.answer_settled.Tie as tie
+use Rattle.call_answer.proofs.answer_settled.Reads as reads
+use Rattle.call_answer.proofs.answer_settled.Lts as lts
 use Rattle.line_print.proofs.write_count.Reads as write-count-reads
 use Rattle.line_print.proofs.write_refusal.Reads as write-refusal-reads
 
@@ -32,8 +32,8 @@ same-length-2 c = search needs
 returns-2 : tie.Need-returns-2
 returns-2 c = search settled-steps
 
-pub tell-settled-spec : {M : Type 1} → statement M
-tell-settled-spec =
+pub answer-settled-spec : {M : Type 1} → statement M
+answer-settled-spec =
     tie.close
     (tie.spec
     enum-known-r

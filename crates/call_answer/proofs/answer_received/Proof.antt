@@ -1,10 +1,10 @@
-use Rattle.call_answer.proofs.Saying.{opened-refused, opened-fresh}
+use Rattle.call_answer.proofs.Saying.{received-refused, received-accepted}
 use native.Mathlib.Omega.{arith}
 use borrow.Author.Needs.{needs}
-use Rattle.call_answer.proofs.tell_opened.Statement.{statement}
-use Rattle.call_answer.proofs.tell_opened.Tie as tie
-use Rattle.call_answer.proofs.tell_opened.Reads as reads
-use Rattle.call_answer.proofs.tell_opened.Lts as lts
+use Rattle.call_answer.proofs.answer_received.Statement.{statement}
+use Rattle.call_answer.proofs.answer_received.Tie as tie
+use Rattle.call_answer.proofs.answer_received.Reads as reads
+use Rattle.call_answer.proofs.answer_received.Lts as lts
 use Rattle.line_print.proofs.write_done.Reads as write-done-reads
 use Rattle.line_print.proofs.write_refusal.Reads as write-refusal-reads
 
@@ -24,16 +24,16 @@ same-length : tie.Need-same-length
 same-length c = search needs
 
 returns : tie.Need-returns
-returns c = search opened-refused
+returns c = search received-refused
 
 same-length-2 : tie.Need-same-length-2
 same-length-2 c = search needs
 
 returns-2 : tie.Need-returns-2
-returns-2 c = search opened-fresh
+returns-2 c = search received-accepted
 
-pub tell-opened-spec : {M : Type 1} → statement M
-tell-opened-spec =
+pub answer-received-spec : {M : Type 1} → statement M
+answer-received-spec =
     tie.close
     (tie.spec
     enum-known-r
