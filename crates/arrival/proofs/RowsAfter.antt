@@ -5,7 +5,7 @@ use mathlib.Core.List.{List, [], _∷_}
 use Prim.Native.Nat.{ℕ, suc}
 use lib.Dec.{eqb}
 use lib.ListN.{length}
-use Rattle.meaning.specs.Tests.{any, those}
+use Rattle.meaning.specs.Tests.{those}
 use Rattle.meaning.specs.Operations.{Operation, isCounter, adds}
 use Rattle.meaning.specs.Rows.{Row, insertRow, lowerRow}
 use Rattle.meaning.specs.Arrival.{takenBy, withRow, sameValue, taggedArrival, settledArrival, rowsAfter}

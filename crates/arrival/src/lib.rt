@@ -12,17 +12,17 @@ ghost use Rattle.words_layout.specs.Layout.{capacityIn, clockAt, Laid, objectsI
 ghost use Rattle.table_drop.specs.Arriving.{operationOf, puts, rowFor};
 ghost use Rattle.table_change.specs.Changes.{Opened};
 ghost use Rattle.arrival.specs.Arrives.{Arrives, arrivalFrom, hasRoom, hasValue, totalsWith};
-use words_layout::CAPACITY_AT;
-use words_layout::CLOCK_AT;
-use words_layout::KEY;
-use words_layout::KINDS_AT;
-use words_layout::OBJECTS_AT;
+use table_drop::Arrival;
 use table_kinds::ADD_WINS_SET;
 use table_kinds::ADDS;
 use table_kinds::CLEARS;
 use table_kinds::ENABLE_WINS_FLAG;
 use table_kinds::REMOVES;
-use table_drop::Arrival;
+use words_layout::CAPACITY_AT;
+use words_layout::CLOCK_AT;
+use words_layout::KEY;
+use words_layout::KINDS_AT;
+use words_layout::OBJECTS_AT;
 use words_tags::RowCount;
 use words_tags::Station;
 
@@ -186,7 +186,14 @@ fn arrive_total(s: &mut [u32], size: usize, count: RowCount, a: Arrival)
     ensures { λ _. ⌜ now (s .exit) ≡ rewritten (now (s .entry)) (withTotals (tableOf (now (s .entry))) (totalsWith a (tableOf (now (s .entry))))) ⌝ }
 {
     if table_kinds::is_counter(a.kind) {
-        table_change::change_total(s, size, count, words_tags::wide(a.object), a.low, a.code == ADDS);
+        table_change::change_total(
+            s,
+            size,
+            count,
+            words_tags::wide(a.object),
+            a.low,
+            a.code == ADDS,
+        );
     }
 }
 

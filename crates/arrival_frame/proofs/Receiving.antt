@@ -13,7 +13,7 @@ use Rattle.meaning.specs.Operations.{Operation, numberOf}
 use Rattle.meaning.specs.Arrival.{rowsAfter}
 use Rattle.meaning.specs.Table.{Header, Table, kindIn}
 use Rattle.meaning.specs.Refusals.{firstOf, Frame, frameRefusals, roomFor, arrivalRefusals, refusalOfFrame}
-use Rattle.meaning.specs.Calls.{accepted, outcome, receive, afterArrival}
+use Rattle.meaning.specs.Calls.{outcome, receive, afterArrival}
 use Rattle.meaning.proofs.Tests.{cases}
 use Rattle.meaning.proofs.Acceptance.{FrameAccepted, frame-accepted, next-number}
 use Rattle.meaning.proofs.TableRules.{kept-by-frame}

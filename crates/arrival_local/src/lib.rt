@@ -12,6 +12,8 @@ ghost use Rattle.table_rules.specs.Checked.{Checked};
 ghost use Rattle.refusal_order.specs.Fields.{localFrom};
 use arrival::FULL;
 use arrival::MOST_STATIONS;
+use refusal_order::Header;
+use refusal_order::NONE;
 use words_layout::CAPACITY_AT;
 use words_layout::CLOCK_AT;
 use words_layout::COUNT_AT;
@@ -19,8 +21,6 @@ use words_layout::KINDS_AT;
 use words_layout::OBJECTS_AT;
 use words_layout::OWN_AT;
 use words_layout::SIZE_AT;
-use refusal_order::Header;
-use refusal_order::NONE;
 use words_tags::RowCount;
 use words_tags::Station;
 

@@ -1,8 +1,8 @@
 -- An issued frame behind `00`.
-use mathlib.Core.Path.{_≡_, refl, sym, ap, ap₂, _∙_, subst}
+use mathlib.Core.Path.{_≡_, refl, sym, ap, _∙_, subst}
 use mathlib.Core.Bool.{Bool, true, false, cond}
 use mathlib.Core.List.{List, [], _∷_, _++_, append-nil}
-use Prim.Native.Nat.{ℕ, zero, suc, _+_, _-_, _*_, _≤_}
+use Prim.Native.Nat.{ℕ, zero, suc, _+_, _-_, _≤_}
 use native.Mathlib.Omega.{arith}
 use mir.Val.{Fits}
 use mir.Syntax.{w64}
@@ -10,7 +10,6 @@ use lib.Dec.{eqb, leb}
 use lib.ListN.{length, getD, take, drop, length-append, length-drop, length-set, take-append-drop, drop-of-length-le}
 use lib.Seq.{drop-drop, drop-at, length-take-le, take-all}
 use borrow.Author.Tests.{le-leb}
-use Rattle.meaning.specs.Order.{raised}
 use Rattle.meaning.specs.Operations as meant
 use Rattle.meaning.specs.Table.{Table}
 use Rattle.meaning.specs.Refusals.{Local, refusalOfLocal, issuedBy}
@@ -21,7 +20,7 @@ use Rattle.table_rules.specs.Checked.{Checked}
 use Rattle.line_hex.specs.Choice.{pick}
 use Rattle.line_hex.specs.Hex.{digitsOf, digitOf, hexLine}
 use Rattle.line_hex.specs.Numbers.{bigEndian}
-use Rattle.line_hex.specs.Putting.{digitsAt, placeAfter, putAt}
+use Rattle.line_hex.specs.Putting.{digitsAt, putAt}
 use Rattle.line_shape.specs.Shapes.{lengthOf, written}
 use Rattle.line_shape.proofs.Spelling.{length-written}
 use Rattle.line_put.specs.Writing.{lineBytes, lineWritten, writtenEach}

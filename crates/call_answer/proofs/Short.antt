@@ -1,27 +1,25 @@
 -- Every answer has at most 2051 bytes.
-use mathlib.Core.Path.{_≡_, refl}
-use mathlib.Core.Bool.{Bool, true, false, cond}
+use mathlib.Core.Path.{refl}
+use mathlib.Core.Bool.{Bool, true, false}
 use mathlib.Core.List.{List, [], _∷_}
-use Prim.Native.Nat.{ℕ, _+_, _*_, _≤_}
+use Prim.Native.Nat.{ℕ, _≤_}
 use native.Mathlib.Omega.{arith}
 use lib.Dec.{eqb}
 use lib.ListN.{length}
 use Rattle.meaning.specs.Calls as meaning
-use Rattle.words_layout.specs.Layout.{rewritten, tableOf}
+use Rattle.words_layout.specs.Layout.{tableOf}
 use Rattle.refusal_kind.specs.Asking.{askedFrom}
 use Rattle.table_rules.specs.Checked.{Checked}
 use Rattle.line_hex.specs.Choice.{pick}
 use Rattle.line_shape.specs.Shapes.{lengthOf}
 use Rattle.line_read.specs.Types.{count, done}
-use Rattle.line_read.specs.Named.{issueRead, openingRead, questionRead}
+use Rattle.line_read.specs.Named.{openingRead, questionRead}
 use Rattle.line_read.proofs.Lengths.{line-length}
 use Rattle.line_decode.specs.Decoding.{bytesOf}
 use Rattle.call_question.specs.AnswerBytes.{refusalBytes, replyBytes}
 use Rattle.call_question.proofs.Short.{refusal-long, reply-short}
 use Rattle.call_checked.specs.declared.Opened.{Opened}
 use Rattle.call_checked.specs.declared.Opened.the-variants as opened
-use Rattle.call_checked.specs.declared.Issued.{Issued}
-use Rattle.call_checked.specs.declared.Issued.the-variants as issued
 use Rattle.call_checked.specs.declared.Received.{Received}
 use Rattle.call_checked.specs.declared.Received.the-variants as received
 use Rattle.call_checked.specs.declared.Settled.{Settled}

@@ -70,7 +70,13 @@ fn answer_question(space: &[u32], line: &[u8], out: &mut [u8]) -> Written
 {
     let asked = line_decode::question(line);
     if asked.ok {
-        return call_question::answer_question(space, asked.object, asked.question, asked.value, out);
+        return call_question::answer_question(
+            space,
+            asked.object,
+            asked.question,
+            asked.value,
+            out,
+        );
     }
     line_print::write_refusal(out, call_checked::MISSHAPEN)
 }

@@ -1,10 +1,9 @@
 -- A local operation, way by way.
-use mathlib.Core.Path.{_≡_, refl, sym, ap, ap₂, _∙_}
+use mathlib.Core.Path.{_≡_, refl, sym, ap, _∙_}
 use mathlib.Core.Bool.{Bool, true, false, false≢true}
 use mathlib.Core.List.{List, [], _∷_, _++_}
-use Prim.Native.Nat.{ℕ, _+_, _-_, _≤_}
-use native.Mathlib.Omega.{arith}
-use lib.Dec.{eqb, leb}
+use Prim.Native.Nat.{ℕ, _+_, _-_}
+use lib.Dec.{leb}
 use lib.ListN.{length, take, drop}
 use borrow.Author.Tests.{ne-eqb}
 use Rattle.meaning.specs.Order.{raised}
@@ -24,7 +23,7 @@ use Rattle.line_put.specs.Writing.{lineWritten}
 use Rattle.line_put.specs.declared.Written.{Written}
 use Rattle.line_put.specs.declared.Written.the-variants as written
 use Rattle.line_read.specs.declared.Issue.{Issue}
-use Rattle.line_read.specs.Types.{lineOf, operation}
+use Rattle.line_read.specs.Types.{operation}
 use Rattle.line_read.specs.Named.{issueRead}
 use Rattle.line_print.specs.Printed.{printed}
 use Rattle.line_decode.specs.Decoding.{bytesOf}

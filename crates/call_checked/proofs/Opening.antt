@@ -1,11 +1,11 @@
 -- The opening call, way by way.
-use mathlib.Core.Path.{_≡_, refl, sym, ap, ap₂, _∙_, subst}
-use mathlib.Core.Bool.{Bool, true, false, not, _&&_, _||_, cond}
-use mathlib.Core.List.{List, [], _∷_, _++_}
-use Prim.Native.Nat.{ℕ, _+_, _-_, _≤_, _<_}
+use mathlib.Core.Path.{_≡_, refl, sym, ap, _∙_}
+use mathlib.Core.Bool.{Bool, true, false, not, _||_}
+use mathlib.Core.List.{List, _++_}
+use Prim.Native.Nat.{ℕ, _+_, _-_, _≤_}
 use native.Mathlib.Omega.{arith}
-use lib.Dec.{ltb, eqb}
-use lib.ListN.{length, drop, take, length-drop}
+use lib.Dec.{ltb}
+use lib.ListN.{length, drop, take}
 use lib.Seq.{take-add, drop-at, length-take-le}
 use borrow.Author.Tests.{ltb-false, ne-eqb, not-false}
 use Rattle.meaning.specs.Refusals.{firstOf, openingRefusals}

@@ -1,21 +1,18 @@
 -- The settling call, way by way.
 use mathlib.Core.Path.{_≡_, refl, sym, ap, ap₂, _∙_}
-use mathlib.Core.Bool.{Bool, true, false, _&&_}
+use mathlib.Core.Bool.{Bool, true, false}
 use mathlib.Core.List.{List, [], _∷_}
-use Prim.Native.Nat.{ℕ, _+_, _*_, _≤_, _<_}
+use Prim.Native.Nat.{ℕ, _≤_, _<_}
 use native.Mathlib.Omega.{arith}
-use lib.Dec.{leb}
-use lib.ListN.{length, drop, take}
+use lib.ListN.{drop, take}
 use borrow.Author.Tests.{le-leb}
 use Rattle.meaning.specs.Refusals.{refusalOfSettling, settlingRefusals}
-use Rattle.meaning.specs.Table.{Table}
 use Rattle.meaning.specs.Calls as meaning
 use Rattle.meaning.specs.Calls.{withRows, rowsSettled, steps}
 use Rattle.meaning.proofs.Tests.{cases}
 use Rattle.words_tags.specs.declared.RowCount.{RowCount}
 use Rattle.words_layout.specs.Layout.{tableOf, rewritten}
-use Rattle.line_hex.specs.Choice.{pick}
-use Rattle.line_hex.specs.Decoding.{isLine, pairs}
+use Rattle.line_hex.specs.Decoding.{isLine}
 use Rattle.line_hex.specs.Numbers.{AllBytes, numberOf, numberFrom}
 use Rattle.line_hex.proofs.Bytes.{all-bytes-drop}
 use Rattle.line_hex.proofs.Spelling.{all-bytes-pairs}
@@ -25,7 +22,6 @@ use Rattle.line_read.specs.declared.Settling.{Settling}
 use Rattle.line_read.specs.Types.{lineRead}
 use Rattle.line_read.specs.Named.{settlingRead}
 use Rattle.line_decode.specs.Decoding.{bytesOf}
-use Rattle.call_checked.specs.declared.Settled.{Settled}
 use Rattle.call_checked.specs.declared.Settled.the-variants as settled
 use Rattle.call_checked.specs.Called.{settledAs, settledOn}
 

@@ -7,12 +7,12 @@ ghost use Rattle.words_layout.specs.Layout.{spaceFor, tableOf};
 ghost use Rattle.table_rules.specs.Checked.{Checked};
 ghost use Rattle.table_ranges.specs.Headers.{headerOf};
 ghost use Rattle.call_checked.specs.Called.{frameOf, issuedAs, issuedOn, localOf, openedAs, openedBy, receivedAs, receivedOn, repliedOn, settledOn};
+use line_put::Written;
 use question::Reply;
 use refusal_order::Header;
 use refusal_order::Sent;
 use words_tags::RowCount;
 use words_tags::Station;
-use line_put::Written;
 
 // A line that is not of the call's type and shape.
 pub const MISSHAPEN: u32 = 1;

@@ -1,13 +1,13 @@
 -- The line of a list: the ways through `write_list`, by the laws of every line.
-use mathlib.Core.Path.{_≡_, refl, sym, ap, _∙_}
+use mathlib.Core.Path.{_≡_, refl, ap, _∙_}
 use mathlib.Core.List.{List, [], _∷_}
 use Prim.Native.Nat.{ℕ, _+_, _*_, _≤_, _<_}
 use native.Mathlib.Omega.{arith}
-use lib.ListN.{length, length-map}
+use lib.ListN.{length}
 use Rattle.meaning.specs.Rows.{Row, countByRows}
 use Rattle.meaning.specs.Questions.{byRows}
 use Rattle.meaning.proofs.Tests.{cases}
-use Rattle.words_layout.specs.Layout.{tableOf, rowsAt, rowWidth, sizeIn, countIn}
+use Rattle.words_layout.specs.Layout.{tableOf, rowWidth, sizeIn, countIn}
 use Rattle.table_rules.specs.Checked.{Checked}
 use Rattle.question_scan.specs.Showing.{shows, shown}
 use Rattle.question_scan.proofs.Listing.{rows-number}
@@ -15,7 +15,7 @@ use Rattle.question_list.specs.Walking.{valuesBehind}
 use Rattle.question_list.proofs.Lists.{all-left}
 use Rattle.line_hex.specs.Putting.{putAt, endAt}
 use Rattle.line_shape.specs.Shapes.{lengthOf, written}
-use Rattle.line_read.specs.Types.{count, headOf, lineOf}
+use Rattle.line_read.specs.Types.{count, headOf}
 use Rattle.line_read.proofs.Known.{known}
 use Rattle.line_put.specs.Writing.{lineBytes, lineWritten, Writable, writtenEach}
 use Rattle.line_put.specs.declared.Written.the-variants.{Characters, TooShort}

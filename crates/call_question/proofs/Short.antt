@@ -7,9 +7,8 @@ use native.Mathlib.Omega.{arith}
 use lib.Dec.{eqb}
 use lib.ListN.{length}
 use Rattle.meaning.specs.Table.{kindIn}
-use Rattle.meaning.specs.Questions as question
 use Rattle.meaning.specs.Questions.{Asked, Source, byRows, answerFrom, fits}
-use Rattle.meaning.specs.Refusals.{_when_, firstOf, declared, wellAsked, listTooLong, askedRefusals, questionRefusals}
+use Rattle.meaning.specs.Refusals.{declared, wellAsked, listTooLong, askedRefusals, questionRefusals}
 use Rattle.meaning.specs.Calls as meaning
 use Rattle.meaning.specs.Calls.{ask, askOf, replyOf}
 use Rattle.words_layout.specs.Layout.{tableOf, totalWords}

@@ -2,8 +2,7 @@
 use mathlib.Core.Path.{_≡_, refl, sym, ap, _∙_}
 use mathlib.Core.Bool.{Bool, true, false, not, _&&_, cond, false≢true}
 use mathlib.Core.List.{List, [], _∷_}
-use Prim.Native.Nat.{ℕ, _≤_}
-use native.Mathlib.Omega.{arith}
+use Prim.Native.Nat.{ℕ}
 use lib.Dec.{eqb, ltb}
 use lib.ListN.{length}
 use borrow.Author.Tests.{eqb-true, le-ltb}
@@ -15,7 +14,7 @@ use Rattle.meaning.specs.Refusals.{_when_, firstOf, declared, wellAsked, listTo
 use Rattle.meaning.specs.Calls as meaning
 use Rattle.meaning.specs.Calls.{ask, askOf, replyOf}
 use Rattle.meaning.proofs.Tests.{cases}
-use Rattle.words_layout.specs.Layout.{tableOf, totalWords}
+use Rattle.words_layout.specs.Layout.{tableOf}
 use Rattle.words_tags.specs.declared.RowCount.{RowCount}
 use Rattle.refusal_kind.specs.Asking.{askedFrom}
 use Rattle.table_rules.specs.Checked.{Checked}

@@ -1,7 +1,7 @@
 -- The values of a list, laid one after the other as digits.
 use mathlib.Core.Path.{_≡_, refl, sym, ap, _∙_}
 use mathlib.Core.List.{List, [], _∷_, _++_}
-use Prim.Native.Nat.{ℕ, suc, _+_, _-_, _*_, _≤_, _<_}
+use Prim.Native.Nat.{ℕ, _+_, _-_, _*_, _≤_, _<_}
 use native.Mathlib.Omega.{arith}
 use lib.ListN.{length}
 use Rattle.meaning.specs.Rows.{countByRows}
@@ -12,7 +12,7 @@ use Rattle.question_list.specs.Walking.{valuesBehind, nextValue}
 use Rattle.question_list.specs.declared.Found.{Found}
 use Rattle.question_list.proofs.Lists.{next-left, all-left}
 use Rattle.line_hex.specs.Numbers.{bigEndian}
-use Rattle.line_hex.specs.Putting.{placeAfter, putAt}
+use Rattle.line_hex.specs.Putting.{putAt}
 use Rattle.line_hex.proofs.Bytes.{length-bigEndian}
 use Rattle.line_shape.specs.Shapes.{written}
 use Rattle.line_put.specs.Writing.{writtenEach}

@@ -12,10 +12,10 @@ ghost use Rattle.table_rules.specs.Checked.{Checked};
 ghost use Rattle.line_hex.specs.Putting.{putAt};
 ghost use Rattle.line_put.specs.Writing.{lineWritten, writtenEach};
 ghost use Rattle.call_question.specs.AnswerBytes.{listBytes, replyBytes};
-use question::Reply;
-use line_shape::FOUR;
-use words_tags::RowCount;
 use line_put::Written;
+use line_shape::FOUR;
+use question::Reply;
+use words_tags::RowCount;
 
 // How many bytes stand before the values of a list: the type and the count.
 const HEAD: usize = 3;

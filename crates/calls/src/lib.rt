@@ -11,13 +11,13 @@ ghost use Rattle.call_answer.specs.Answering.{frameRoom, answeredAfter};
 ghost use Rattle.calls.specs.Calls.{fallen, issuedBy, receivedBy, repliedBy, settledBy};
 ghost use Rattle.calls.specs.Answers.{answeredBy, answerOf, linesFor, longestAnswer, printedAt};
 ghost use Rattle.calls.specs.LineOrEnd.{lineOrEnd};
-use question::Reply;
-use form_save::Saved;
 use call_checked::Issued;
 use call_checked::Opened;
 use call_checked::Received;
 use call_checked::Settled;
+use form_save::Saved;
 use line_put::Written;
+use question::Reply;
 
 // The space holds no table.
 const NO_TABLE: u32 = 14;

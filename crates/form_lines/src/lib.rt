@@ -10,6 +10,7 @@ ghost use Rattle.words_layout.specs.Layout.{countIn, objectsIn, rowsAt, rowWidt
 ghost use Rattle.table_rules.specs.Checked.{Checked};
 ghost use Rattle.line_put.specs.Writing.{lineWritten};
 ghost use Rattle.form_lines.specs.FormLines.{clockLine, closingLine, lastLine, openingLine, rowLineAt, totalLine};
+use line_put::Written;
 use words_layout::CAPACITY_AT;
 use words_layout::CLOCK_AT;
 use words_layout::CODE_AT;
@@ -25,7 +26,6 @@ use words_layout::UNSETTLED_AT;
 use words_layout::VECTOR_AT;
 use words_tags::RowCount;
 use words_tags::Station;
-use line_put::Written;
 
 // "01 settled or 00".
 const SETTLED: u32 = 1;

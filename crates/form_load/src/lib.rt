@@ -8,7 +8,12 @@ ghost use Rattle.line_decode.specs.Decoding.{bytesOf};
 ghost use Rattle.call_checked.specs.Called.{openedBy};
 ghost use Rattle.form_row.specs.LoadHead.{LoadHead};
 ghost use Rattle.form_load.specs.Loading.{begun, behindLasts, firstTaken, headLoads, loadEnded, loadWaits, loadedBy, nextIn, takenAs, underLoad, waits};
+use call_checked::MISSHAPEN;
+use call_checked::Opened;
+use form_take::Loaded;
+use form_take::WRONG;
 use form_write::Sought;
+use table_ranges::GREATEST_KIND;
 use words_layout::CAPACITY_AT;
 use words_layout::CLOCK_AT;
 use words_layout::COUNT_AT;
@@ -19,13 +24,8 @@ use words_layout::OBJECTS_AT;
 use words_layout::OWN_AT;
 use words_layout::SIZE_AT;
 use words_layout::TABLE_MARK;
-use table_ranges::GREATEST_KIND;
-use call_checked::MISSHAPEN;
-use call_checked::Opened;
 use words_tags::RowCount;
 use words_tags::Station;
-use form_take::Loaded;
-use form_take::WRONG;
 
 // The progress of a load whose opening line was taken, and of one that has D too.
 const OPENED: u32 = 1;

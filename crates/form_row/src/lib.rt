@@ -6,6 +6,7 @@ ghost use lib.ListN.{drop, length};
 ghost use Rattle.words_layout.specs.Layout.{capacityIn, countIn, rowWidth, sizeIn};
 ghost use Rattle.form_row.specs.LoadHead.{LoadHead};
 ghost use Rattle.form_row.specs.Joining.{joined, joins, rowSaid};
+use line_read::Row;
 use words_layout::CAPACITY_AT;
 use words_layout::CLOCK_AT;
 use words_layout::COUNT_AT;
@@ -13,7 +14,6 @@ use words_layout::KEY;
 use words_layout::KINDS_AT;
 use words_layout::OBJECTS_AT;
 use words_layout::SIZE_AT;
-use line_read::Row;
 use words_tags::RowCount;
 use words_tags::Station;
 

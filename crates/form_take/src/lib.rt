@@ -7,6 +7,7 @@ ghost use Rattle.words_layout.specs.Layout.{objectsIn, sizeIn};
 ghost use Rattle.form_row.specs.LoadHead.{LoadHead};
 ghost use Rattle.form_take.specs.Taking.{clockTaken, closed, finished, lastTaken, mostProgress, progressIn, rowOrClosing, rowTaken, spoilt, took, totalTaken};
 use form_row::SETTLED;
+use line_read::Row;
 use words_layout::CLOCK_AT;
 use words_layout::COUNT_AT;
 use words_layout::KEY;
@@ -16,7 +17,6 @@ use words_layout::OWN_AT;
 use words_layout::SIZE_AT;
 use words_layout::TOTAL_WORDS;
 use words_layout::TOTALS_AT;
-use line_read::Row;
 use words_tags::Station;
 
 // "a saved line that is misplaced, misshapen or breaks a table rule"
@@ -101,7 +101,11 @@ pub fn take_total(space: &mut [u32], bytes: &[u8], object: usize) -> Loaded
     let total = [f.high, f.low];
     let end = CLOCK_AT + words_tags::wide(space[SIZE_AT]);
     let bound = table_rules_clock::total_bound(&space[CLOCK_AT..end]);
-    if table_rules_clock::total_ok(space[KINDS_AT + object], table_rules_clock::code_of(&total), bound) {
+    if table_rules_clock::total_ok(
+        space[KINDS_AT + object],
+        table_rules_clock::code_of(&total),
+        bound,
+    ) {
         return take_words(space, TOTALS_AT + object * TOTAL_WORDS, &total);
     }
     spoil(space)

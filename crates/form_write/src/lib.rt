@@ -7,6 +7,7 @@ ghost use Rattle.words_layout.specs.Layout.{tableOf};
 ghost use Rattle.table_rules.specs.Checked.{Checked};
 ghost use Rattle.form_write.specs.Forms.{formedOf, lineAt, rowLines, savedForm, totalLines};
 ghost use Rattle.form_write.specs.Seeking.{counterAt, otherAt};
+use line_put::Written;
 use words_layout::COUNT_AT;
 use words_layout::KINDS_AT;
 use words_layout::OBJECTS_AT;
@@ -14,7 +15,6 @@ use words_layout::OWN_AT;
 use words_layout::SIZE_AT;
 use words_tags::RowCount;
 use words_tags::Station;
-use line_put::Written;
 
 // Where the first lines of a form stand.
 const OPENING_PLACE: usize = 0;

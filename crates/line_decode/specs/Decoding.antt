@@ -1,6 +1,6 @@
 -- The bytes that a line says.
 use Prim.Native.Nat.{ℕ}
-use mathlib.Core.List.{List, [], _∷_}
+use mathlib.Core.List.{List, []}
 use lib.ListN.{length}
 use Rattle.line_hex.specs.Choice.{pick}
 use Rattle.line_hex.specs.Decoding.{decoded, isLine, lineType, pairs}

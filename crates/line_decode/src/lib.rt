@@ -1,7 +1,6 @@
 // Lines as the calls hear them: characters read to bytes, and the bytes taken apart; what is no line is heard as no bytes, which have no shape.
 // Lines kept a character at a time, however the input is cut. This crate has no functions: its definitions are in specs/, its laws in proofs/.
 ghost use mathlib.Core.Path.{_≡_};
-ghost use Rattle.line_hex.specs.Decoding.{decoded};
 ghost use Rattle.line_read.specs.Named.{issueRead, openingRead, operationRead, printingRead, questionRead, settlingRead};
 ghost use Rattle.line_decode.specs.Decoding.{bytesOf, decodedInto, typeOf};
 use line_hex::Decoded;
@@ -79,4 +78,3 @@ pub fn type_of(line: &[u8]) -> u8
         LineType::Unknown => NO_TYPE,
     }
 }
-

@@ -70,7 +70,13 @@ pub fn write_operation(
         code,
         value,
     ];
-    line_put::write_fields(out, &line_read::OPERATION_WIDTHS, &fields, line_shape::FOUR, vector)
+    line_put::write_fields(
+        out,
+        &line_read::OPERATION_WIDTHS,
+        &fields,
+        line_shape::FOUR,
+        vector,
+    )
 }
 
 // `10`: an opening, its object count the number of kinds.
@@ -95,7 +101,13 @@ pub fn write_clock(out: &mut [u8], vector: &[u32]) -> line_put::Written
     ensures { λ r. ⌜ (r, now (out .exit)) ≡ printed (now (out .entry)) clock [] (now (vector .entry)) ⌝ }
 {
     let fields = [line_read::CLOCK as u32];
-    line_put::write_fields(out, &line_read::CLOCK_WIDTHS, &fields, line_shape::FOUR, vector)
+    line_put::write_fields(
+        out,
+        &line_read::CLOCK_WIDTHS,
+        &fields,
+        line_shape::FOUR,
+        vector,
+    )
 }
 
 // `51`: k and L[k].
@@ -135,7 +147,13 @@ pub fn write_row(
     ensures { λ r. ⌜ (r, now (out .exit)) ≡ printed (now (out .entry)) row (object ∷ code ∷ settled ∷ sender ∷ value ∷ []) (now (vector .entry)) ⌝ }
 {
     let fields = [line_read::ROW as u32, object, code, settled, sender, value];
-    line_put::write_fields(out, &line_read::ROW_WIDTHS, &fields, line_shape::FOUR, vector)
+    line_put::write_fields(
+        out,
+        &line_read::ROW_WIDTHS,
+        &fields,
+        line_shape::FOUR,
+        vector,
+    )
 }
 
 // `5f`: the row count.

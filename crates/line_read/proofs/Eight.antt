@@ -1,7 +1,7 @@
 -- A line with a total has the 8-byte number of its two words; two's complement is the reading of who asks, the table's total being two words as well.
 use Prim.Native.Nat.{ℕ, _<_, _^_}
 use mathlib.Core.Path.{_≡_, refl, sym}
-use mathlib.Core.List.{List, [], _∷_, _++_, append-nil}
+use mathlib.Core.List.{[], _∷_, _++_, append-nil}
 use Rattle.line_hex.specs.Numbers.{bigEndian, eightOf}
 use Rattle.line_hex.proofs.Bytes.{eight-is-two-words}
 use Rattle.line_shape.specs.Shapes.{written}

@@ -15,7 +15,7 @@ use Rattle.line_shape.specs.Reading.{entries, fieldsRead, hasShape, mostStation
 use Rattle.line_shape.specs.Shapes.{lengthOf, read}
 use Rattle.line_shape.specs.declared.Fields.{Fields}
 use Rattle.line_shape.proofs.Taking.{head-small}
-use Rattle.line_read.specs.Types.{headOf, isOf, Line, lineRead, longest, opening, operation, issue, settling, question, printing}
+use Rattle.line_read.specs.Types.{headOf, isOf, Line, lineRead, longest, opening, operation, issue, settling, question}
 use Rattle.line_read.specs.Named.{issueRead, openingOf, openingRead, operationRead, printingRead, questionRead, settlingRead}
 use Rattle.line_read.specs.declared.Opening.{Opening}
 use Rattle.line_read.proofs.Known.{Known, known}

@@ -67,7 +67,13 @@ pub fn next_value(s: &[u32], object: u32, passed: RowCount) -> Found
 {
     let width = row_width(s);
     let from = rows_start(s) + words_tags::wide(passed.0) * width;
-    let before = question_scan::next_shown(s, width, from, RowCount(s[COUNT_AT] - passed.0), object).0;
+    let before = question_scan::next_shown(
+        s,
+        width,
+        from,
+        RowCount(s[COUNT_AT] - passed.0),
+        object,
+    ).0;
     let at = from + words_tags::wide(before) * width;
     Found {
         value: s[at + LOW_AT],

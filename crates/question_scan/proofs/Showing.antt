@@ -13,7 +13,7 @@ use Rattle.meaning.specs.Operations.{Operation, numberOf}
 use Rattle.meaning.specs.Meaning.{on, addOf, removeOf}
 use Rattle.meaning.specs.Rows.{Row, keyOf, lowerKey, lowerRow, removeRowsCount, isInByRows, listByRows, countByRows}
 use Rattle.meaning.specs.Arrival.{sameValue}
-use Rattle.meaning.proofs.Tests.{iff, cases, clash, fails, and-left, and-right, and-both, and-fails, not-holds, fails-not, any-in, any-out, any-none, or-cases, or-right, or-right-fails}
+use Rattle.meaning.proofs.Tests.{iff, cases, clash, fails, and-left, and-right, and-both, not-holds, fails-not, any-in, any-out, any-none, or-cases, or-right, or-right-fails}
 use Rattle.meaning.proofs.Ascending.{Asc, Sorted, lower-cases}
 use Rattle.meaning.proofs.OneValue.{add-on, remove-on}
 use Rattle.meaning.proofs.RowLaws.{on-eq}

@@ -8,10 +8,10 @@ ghost use Rattle.words_layout.specs.Words.{pieces};
 ghost use Rattle.words_layout.specs.Layout.{rowOf};
 ghost use Rattle.table_insert.specs.Placing.{keyWords};
 ghost use Rattle.question_scan.specs.Showing.{beforeShown, countShown, sameKey, shows, showsValue, valueShown};
+use table_kinds::ADDS;
 use words_layout::CODE_AT;
 use words_layout::HIGH_AT;
 use words_layout::LOW_AT;
-use table_kinds::ADDS;
 use words_tags::RowCount;
 
 // Values are 32-bit numbers: their high word is 0.

@@ -75,7 +75,11 @@ pub fn frame_refusal(
     let own = h.own;
     let stranger = is_stranger(sender, h.size, own);
     let undeclared = !refusal_kind::is_declared(kinds, f.object);
-    let forbidden = !refusal_kind::is_allowed(table_kinds::kind_of(kinds, f.object), f.code, f.value);
+    let forbidden = !refusal_kind::is_allowed(
+        table_kinds::kind_of(kinds, f.object),
+        f.code,
+        f.value,
+    );
     let known = refusal_time::is_known(v, clock, sender);
     let early = !refusal_time::in_time(v, clock, sender);
     let falling = !refusal_time::keeps_rising(lasts, v, sender);

@@ -1,6 +1,6 @@
 -- The ways of a line: what a title ends and starts, and what another line goes to.
-use Prim.Native.Nat.{ℕ, suc, _+_, _-_, _≤_, _<_}
-use mathlib.Core.Path.{_≡_, refl, sym, ap, ap₂, subst, _∙_}
+use Prim.Native.Nat.{ℕ, _+_, _-_, _≤_, _<_}
+use mathlib.Core.Path.{_≡_, refl, sym, ap, ap₂, _∙_}
 use mathlib.Core.Bool.{Bool, true, false, _&&_}
 use mathlib.Core.List.{List, [], _∷_, _++_, append-nil}
 use native.Mathlib.Omega.{arith}
@@ -8,7 +8,6 @@ use borrow.Author.Tests.{eq-eqb, ne-eqb}
 use lib.Dec.{eqb}
 use lib.ListN.{length, getD, take, drop, replicate, drop-of-length-le}
 use lib.Seq.{length-take-le}
-use Rattle.line_hex.specs.Choice.{pick}
 use Rattle.form_judge.specs.declared.Judged.{Judged}
 use Rattle.form_judge.specs.declared.Judged.the-variants as judged
 use Rattle.form_judge.specs.Judging.{judgedBy, judgedEnd}

@@ -7,11 +7,11 @@ ghost use Rattle.program_output.specs.Gathering.{HasRoom};
 ghost use Rattle.line_decode.specs.Feeding.{fed, heldFed, heldTaken, taken};
 ghost use Rattle.replay.specs.Replaying.{begins, ended, isTitle, lastEnded, played, replayed, turned};
 ghost use Rattle.replay.specs.Ready.{Ready, StillReady};
+use form_judge::Judged;
 use program_output::LINE;
 use program_output::MOST_WORDS;
 use program_output::PENDING;
 use program_output::Waiting;
-use form_judge::Judged;
 
 // A title has these two ahead of it, and behind them this one where it starts a form.
 const DASH: u8 = b'-';

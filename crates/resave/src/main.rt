@@ -8,12 +8,12 @@ ghost use Rattle.line_decode.specs.Feeding.{fed, Going, heldFed, heldTaken, Las
 ghost use Rattle.table_ranges.specs.Spaces.{mostWords};
 ghost use Rattle.resave.specs.Ending.{AfterRead, FormEnd, Read};
 ghost use Rattle.form_judge.specs.declared.Judged.the-variants.{Open};
+use form_judge::Judged;
+use libc::STDIN_FILENO;
 use program_output::LINE;
 use program_output::MOST_WORDS;
 use program_output::PENDING;
 use program_output::Waiting;
-use form_judge::Judged;
-use libc::STDIN_FILENO;
 
 // What is kept from one byte of input to the next: so many characters of a line, and what is known of the form.
 struct Kept {

@@ -1,6 +1,6 @@
 -- What a pass over a table's rows makes of the table.
-use mathlib.Core.Path.{_≡_, refl, sym, ap, _∙_, subst, fun-ext, ap₂}
-use mathlib.Core.Bool.{Bool, true, false, _&&_}
+use mathlib.Core.Path.{_≡_, refl, sym, ap, _∙_, fun-ext, ap₂}
+use mathlib.Core.Bool.{Bool, true, false}
 use mathlib.Core.Logic.{_≢_}
 use mathlib.Core.List.{List, [], _∷_, _++_, map, append-nil, List·Memᴰ, List·Memᴰ·head, List·Memᴰ·tail}
 use Prim.Native.Nat.{ℕ, zero, suc, _+_, _-_, _*_, _≤_, _<_}
@@ -8,18 +8,17 @@ use native.Mathlib.Omega.{arith}
 use lib.ListN.{length, getD, take, drop, set, replicate, length-drop, length-map}
 use lib.Seq.{paste, take-all, take-at, length-take-le}
 use Rattle.meaning.specs.Tests.{every}
-use Rattle.meaning.specs.Order.{Vector, atMost, othersOf, lowOf}
+use Rattle.meaning.specs.Order.{Vector, othersOf, lowOf}
 use Rattle.meaning.specs.Rows.{Row, settledRow}
-use Rattle.meaning.specs.Table.{Table, kindIn, low, isTable}
-use Rattle.meaning.specs.Settling.{settledRows, stepsTaken}
+use Rattle.meaning.specs.Table.{Table, kindIn, low}
 use Rattle.meaning.specs.Calls.{rowsSettled, steps, withRows}
 use Rattle.meaning.proofs.Tests.{cases, and-both}
 use Rattle.meaning.proofs.TableFacts.{facts, last-below}
 use Rattle.meaning.proofs.TableRules.{kept-by-settling, settling-shortens}
 use Rattle.words_layout.specs.Words.{pieces, flat, padded}
-use Rattle.words_layout.specs.Layout.{Laid, rowOf, rowWords, rowsIn, tableOf, rewritten, sizeIn, ownIn, countIn, objectsIn, rowsAt}
-use Rattle.words_layout.proofs.Pieces.{Wide, Each, map-back, length-pieces}
-use Rattle.words_layout.proofs.RowWords.{Shaped, row-read, length-row}
+use Rattle.words_layout.specs.Layout.{rowOf, rowWords, rowsIn, tableOf, rewritten, sizeIn, ownIn, countIn, rowsAt}
+use Rattle.words_layout.proofs.Pieces.{Each, map-back, length-pieces}
+use Rattle.words_layout.proofs.RowWords.{Shaped, row-read}
 use Rattle.words_layout.proofs.Whole.{fit, put-fewer, each-spelt, wide-rows}
 use Rattle.words_layout.proofs.Reading.{short}
 use Rattle.words_layout.proofs.Changing.{kinds-are}

@@ -61,7 +61,11 @@ fn kinds_of(s: &[u32]) -> [u32; MOST_OBJECTS]
     ensures { λ r. ⌜ r ≡ take 32 (drop kindsAt (now (s .entry))) ⌝ }
 {
     let mut kinds = [0u32; MOST_OBJECTS];
-    words_moves::put(&mut kinds, 0, &s[words_layout::KINDS_AT..words_layout::TOTALS_AT]);
+    words_moves::put(
+        &mut kinds,
+        0,
+        &s[words_layout::KINDS_AT..words_layout::TOTALS_AT],
+    );
     kinds
 }
 
@@ -86,7 +90,14 @@ fn settle_opened(s: &mut [u32], size: usize, count: RowCount, limit: RowCount) -
     let kinds = kinds_of(s);
     let low = low_in(s, size);
     let base = words_layout::CLOCK_AT + size + size * size;
-    let passed = settling_pass::pass_rows(&mut s[base..], size, count, &kinds, &low[0..size], limit);
+    let passed = settling_pass::pass_rows(
+        &mut s[base..],
+        size,
+        count,
+        &kinds,
+        &low[0..size],
+        limit,
+    );
     s[words_layout::COUNT_AT] = passed.left.0;
     passed.taken
 }

@@ -6,11 +6,11 @@ ghost use Rattle.table_ranges.specs.Spaces.{mostWords};
 ghost use Rattle.program_output.specs.Gathering.{HasRoom, replied};
 ghost use Rattle.line_decode.specs.Feeding.{fed, Going, heldFed, heldTaken, LastPiece, taken, WholeLines};
 ghost use Rattle.station.specs.Ending.{StillGoing};
+use libc::STDIN_FILENO;
 use program_output::LINE;
 use program_output::MOST_WORDS;
 use program_output::PENDING;
 use program_output::Waiting;
-use libc::STDIN_FILENO;
 
 // What is kept from one byte of input to the next: so many characters of a line, and the answers that wait.
 struct Kept {

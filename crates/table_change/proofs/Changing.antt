@@ -1,19 +1,18 @@
 -- A change of the words at one part is the change of the record at that part.
-use Prim.Native.Nat.{ℕ, zero, suc, _+_, _-_, _*_, _≤_, _<_}
+use Prim.Native.Nat.{ℕ, _+_, _-_, _*_, _≤_}
 use mathlib.Core.Path.{_≡_, refl, sym, ap, _∙_}
-use mathlib.Core.Bool.{Bool, true, false, not}
-use mathlib.Core.List.{List, [], _∷_, _++_, append-assoc, append-nil, map}
-use native.Mathlib.Nat.{mul-le-mul, mul-le-mul-right}
+use mathlib.Core.Bool.{not}
+use mathlib.Core.List.{List, [], _++_, append-nil}
+use native.Mathlib.Nat.{mul-le-mul}
 use native.Mathlib.Omega.{arith}
-use lib.ListN.{length, getD, take, drop, set, length-drop, length-map, drop-of-length-le}
+use lib.ListN.{length, take, drop, set, length-drop, length-map, drop-of-length-le}
 use lib.Seq.{take-all}
 use Rattle.meaning.specs.Tests.{those}
 use Rattle.meaning.specs.Order.{Vector}
 use Rattle.meaning.specs.Rows.{Row}
-use Rattle.meaning.specs.Table.{Table}
 use Rattle.meaning.specs.Calls.{withRows}
-use Rattle.words_layout.specs.Words.{pieces, flat, padded}
-use Rattle.words_layout.specs.Layout.{Laid, rowOf, tableOf, rewritten, sizeIn, capacityIn, countIn, rowsIn, rowsAt}
+use Rattle.words_layout.specs.Words.{flat, padded}
+use Rattle.words_layout.specs.Layout.{Laid, rowOf, tableOf, rewritten, sizeIn, countIn, rowsIn}
 use Rattle.words_layout.proofs.Pieces.{those-map}
 use Rattle.words_layout.proofs.Whole.{area, put-filtered}
 use Rattle.table_drop.specs.Arriving.{operationOf, goes, rowGoes, leftBy, staying}

@@ -1,18 +1,17 @@
 -- A row put at its place in the words is the row put in the record.
-use Prim.Native.Nat.{ℕ, zero, suc, _+_, _-_, _*_, _≤_, _<_}
+use Prim.Native.Nat.{ℕ, suc, _+_, _-_, _*_, _≤_, _<_}
 use mathlib.Core.Path.{_≡_, refl, sym, ap, _∙_}
-use mathlib.Core.List.{List, [], _∷_, _++_, append-assoc, append-nil, map}
+use mathlib.Core.List.{List, _++_, append-assoc, append-nil}
 use native.Mathlib.Nat.{mul-le-mul-right, suc-mul}
 use native.Mathlib.Numerals.{add-one}
 use native.Mathlib.Omega.{arith}
 use lib.ListN.{length, take, drop, set, replicate, length-drop, length-append}
 use lib.Seq.{drop-drop}
 use Rattle.meaning.specs.Rows.{Row, insertRow}
-use Rattle.meaning.specs.Table.{Table}
 use Rattle.meaning.specs.Calls.{withRows}
 use Rattle.words_layout.specs.Words.{pieces, flat, padded}
 use Rattle.words_layout.specs.Layout.{Laid, rowOf, rowWords, tableOf, rewritten, beyond, sizeIn, capacityIn, countIn, rowsIn, rowsAt}
-use Rattle.words_layout.proofs.Pieces.{Wide, length-pieces, length-flat}
+use Rattle.words_layout.proofs.Pieces.{length-pieces, length-flat}
 use Rattle.words_layout.proofs.Whole.{rows-wide, each-spelt, after-rows, put-rows, zeros-drop}
 use Rattle.table_insert.specs.Placing.{inserted}
 use Rattle.table_insert.proofs.Ordering.{inserted-rows, inserted-spelt, inserted-long, inserted-wide}

@@ -1,16 +1,15 @@
 -- The clock and the last vectors where they stand.
-use Prim.Native.Nat.{ℕ, zero, suc, _+_, _-_, _*_, _≤_, _<_}
-use mathlib.Core.Path.{_≡_, refl, sym, ap, _∙_}
-use mathlib.Core.List.{List, [], _∷_, _++_, append-assoc}
-use native.Mathlib.Nat.{mul-le-mul, mul-le-mul-right, suc-mul}
+use Prim.Native.Nat.{ℕ, suc, _+_, _-_, _*_, _≤_, _<_}
+use mathlib.Core.Path.{_≡_, refl, ap, _∙_}
+use mathlib.Core.List.{List, _++_, append-assoc}
+use native.Mathlib.Nat.{mul-le-mul-right, suc-mul}
 use native.Mathlib.Omega.{arith}
 use mir.Val.{Fits}
 use mir.Syntax.{w64}
 use lib.ListN.{length, getD, take, drop, set, length-drop}
 use lib.Seq.{paste, take-all, drop-drop, length-take-le}
-use Rattle.meaning.specs.Order.{Vector, entryLimit, raised}
-use Rattle.meaning.specs.Table.{Table}
-use Rattle.words_layout.specs.Layout.{Laid, tableOf, rewritten, sizeIn, withClock, withLast}
+use Rattle.meaning.specs.Order.{entryLimit, raised}
+use Rattle.words_layout.specs.Layout.{tableOf, rewritten, sizeIn, withClock, withLast}
 use Rattle.words_layout.proofs.Changing.{put-clock, put-last}
 use Rattle.table_change.specs.Changes.{Opened, entryBelowLimit}
 

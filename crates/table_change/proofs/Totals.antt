@@ -2,16 +2,13 @@
 use Prim.Native.Nat.{ℕ, zero, suc, _+_, _-_, _*_, _≤_, _<_}
 use mathlib.Core.Path.{_≡_, refl, sym, ap, _∙_}
 use mathlib.Core.Bool.{Bool}
-use mathlib.Core.List.{List, [], _∷_, _++_, append-assoc, map}
-use native.Mathlib.Nat.{suc-mul, zero-mul}
-use native.Mathlib.Numerals.{add-one}
+use mathlib.Core.List.{List, [], _∷_, _++_, map}
 use native.Mathlib.Omega.{arith}
 use lib.IntN.{ℤ, pos, _+ℤ_}
 use lib.ListN.{length, getD, take, drop, set, length-drop, length-set}
-use lib.Seq.{drop-drop, drop-cons, set-at, length-take-le, getD-drop, getD-take}
-use Rattle.meaning.specs.Table.{Table}
+use lib.Seq.{getD-drop}
 use Rattle.words_layout.specs.Words.{pieces}
-use Rattle.words_layout.specs.Layout.{Laid, tableOf, rewritten, sizeIn, objectsIn, totalWords, totalOfWords, withTotals}
+use Rattle.words_layout.specs.Layout.{tableOf, rewritten, objectsIn, totalWords, totalOfWords, withTotals}
 use Rattle.words_layout.proofs.Changing.{put-total}
 use Rattle.table_change.specs.TotalChange.{change}
 use Rattle.table_change.specs.Changes.{Opened, totalsChanged}

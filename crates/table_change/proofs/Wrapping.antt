@@ -1,14 +1,14 @@
 -- Whole numbers in 64 bits add as their codes do, modulo 2 ^ 64.
-use Prim.Native.Nat.{ℕ, zero, suc, _+_, _-_, _*_, _/_, _%_, _≤_, _<_}
-use mathlib.Core.Path.{_≡_, refl, sym, ap, _∙_}
-use mathlib.Core.Bool.{Bool, true, false, cond}
+use Prim.Native.Nat.{ℕ, zero, suc, _+_, _-_, _*_, _%_, _<_}
+use mathlib.Core.Path.{_≡_, refl, sym, _∙_}
+use mathlib.Core.Bool.{Bool, true, false}
 use mathlib.Core.List.{List, [], _∷_}
 use native.Mathlib.Omega.{arith}
-use borrow.Author.Tests.{ltb-true, ltb-false, lt-ltb, le-ltb}
+use borrow.Author.Tests.{ltb-true, ltb-false}
 use lib.Dec.{ltb}
 use lib.IntN.{ℤ, pos, negsuc, negℤ, _+ℤ_, +ℤ-idr}
 use Rattle.meaning.proofs.Tests.{cases}
-use Rattle.words_layout.specs.Words.{complement, ofComplement, ofTwoWords, inTwoWords}
+use Rattle.words_layout.specs.Words.{complement, ofTwoWords, inTwoWords}
 use Rattle.words_layout.specs.Layout.{totalOfWords, totalWords}
 use Rattle.words_layout.proofs.RowWords.{high-of, low-of}
 use Rattle.words_layout.proofs.Spelling.{code-read}

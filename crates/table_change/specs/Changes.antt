@@ -1,7 +1,7 @@
 -- What the changes of a table ask and do.
 use mathlib.Core.Path.{_≡_}
 use mathlib.Core.Bool.{Bool, not}
-use mathlib.Core.List.{List, [], _∷_, _++_}
+use mathlib.Core.List.{List}
 use Prim.Native.Nat.{ℕ, _+_, _*_, _≤_, _<_}
 use lib.IntN.{ℤ, pos, _+ℤ_}
 use lib.ListN.{length, getD, set}
@@ -9,7 +9,7 @@ use Rattle.meaning.specs.Tests.{those}
 use Rattle.meaning.specs.Order.{Vector, entryLimit}
 use Rattle.meaning.specs.Rows.{Row}
 use Rattle.meaning.specs.Table.{Table}
-use Rattle.words_layout.specs.Layout.{Laid, rowsAt, rowWidth, sizeIn, capacityIn, countIn}
+use Rattle.words_layout.specs.Layout.{Laid, rowsAt, rowWidth, sizeIn, countIn}
 use Rattle.table_change.specs.TotalChange.{change}
 use Rattle.table_drop.specs.Arriving.{operationOf, goes}
 use Rattle.table_drop.specs.declared.Arrival.{Arrival}

@@ -17,8 +17,8 @@ use table_drop::Arrival;
 use words_layout::CLOCK_AT;
 use words_layout::COUNT_AT;
 use words_layout::KEY;
-use words_layout::TOTALS_AT;
 use words_layout::TOTAL_WORDS;
+use words_layout::TOTALS_AT;
 use words_tags::RowCount;
 use words_tags::Station;
 

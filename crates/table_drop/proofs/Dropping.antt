@@ -1,11 +1,11 @@
 -- Loops that pass rows once: what they know at their head, and how they go on. `more` rows are still to be read, from place `from`.
 use Prim.Native.Nat.{ℕ, zero, suc, _+_, _-_, _*_, _≤_, _<_}
 use mathlib.Core.Path.{_≡_, refl, sym, ap, _∙_}
-use mathlib.Core.Bool.{Bool, true, false, not}
-use mathlib.Core.List.{List, [], _∷_, _++_, append-assoc, append-nil}
+use mathlib.Core.Bool.{Bool, true, false}
+use mathlib.Core.List.{List, _∷_, _++_, append-assoc, append-nil}
 use native.Mathlib.Nat.{suc-mul}
 use native.Mathlib.Omega.{arith}
-use lib.ListN.{length, getD, take, drop, replicate, length-drop, length-append}
+use lib.ListN.{length, take, drop, replicate, length-drop}
 use lib.Seq.{paste, drop-paste, take-paste, length-paste, drop-drop, length-take-le}
 use Rattle.words_layout.specs.Words.{pieces, flat, padded}
 use Rattle.table_drop.specs.Arriving.{leftBy}

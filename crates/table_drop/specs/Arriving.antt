@@ -1,9 +1,8 @@
 -- What an arrival does to rows, in one form for all nine kinds: some rows go, and one may be put.
-use mathlib.Core.Bool.{Bool, true, false, not, _&&_, _||_, cond}
-use mathlib.Core.List.{List, [], _∷_}
+use mathlib.Core.Bool.{Bool, false, not, _&&_, _||_, cond}
+use mathlib.Core.List.{List}
 use Prim.Native.Nat.{ℕ}
 use lib.Dec.{eqb}
-use lib.ListN.{length}
 use Rattle.meaning.specs.Tests.{any, those}
 use Rattle.meaning.specs.Order.{Vector}
 use Rattle.meaning.specs.Operations.{Operation, isCounter, growSet, twoPhaseSet, multiValueRegister, adds, clears}

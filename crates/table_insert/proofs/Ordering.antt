@@ -1,7 +1,7 @@
 -- The order of rows is the order of their first seven words, so a row put among words is the row put among rows.
-use Prim.Native.Nat.{ℕ, zero, suc, _+_, _-_, _*_, _/_, _%_, _≤_, _<_}
-use mathlib.Core.Path.{_≡_, refl, sym, ap, _∙_, subst}
-use mathlib.Core.Bool.{Bool, true, false, not, _&&_, _||_, cond}
+use Prim.Native.Nat.{ℕ, suc, _+_, _-_, _/_, _%_, _≤_, _<_}
+use mathlib.Core.Path.{_≡_, refl, sym, ap, _∙_}
+use mathlib.Core.Bool.{Bool, _&&_, _||_}
 use mathlib.Core.List.{List, [], _∷_, _++_, map}
 use native.Mathlib.Omega.{arith}
 use borrow.Author.Tests.{eqb-true, eq-eqb, ne-eqb, eqb-false, lt-ltb, le-ltb, ltb-true, ltb-false}
@@ -10,7 +10,6 @@ use lib.ListN.{length, take}
 use lib.Seq.{take-at}
 use Rattle.meaning.specs.Rows.{Row, keyOf, lowerKey, lowerRow, insertRow}
 use Rattle.meaning.proofs.Tests.{cases, iff}
-use Rattle.words_layout.specs.Words.{padded}
 use Rattle.words_layout.specs.Layout.{rowWords, rowOf}
 use Rattle.words_layout.proofs.Pieces.{Each, Wide}
 use Rattle.table_insert.specs.Placing.{inserted}

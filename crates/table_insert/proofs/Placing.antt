@@ -1,15 +1,15 @@
 -- The order of keys word by word; finding the place; the moves together are the insertion.
-use Prim.Native.Nat.{ℕ, zero, suc, _+_, _-_, _*_, _≤_, _<_}
+use Prim.Native.Nat.{ℕ, suc, _+_, _-_, _*_, _≤_, _<_}
 use mathlib.Core.Path.{_≡_, refl, sym, ap, _∙_}
 use mathlib.Core.Bool.{Bool, true, false, _&&_, _||_, cond}
-use mathlib.Core.List.{List, [], _∷_, _++_, append-assoc, append-nil}
+use mathlib.Core.List.{List, [], _∷_, _++_, append-assoc}
 use native.Mathlib.Nat.{suc-mul}
 use native.Mathlib.Numerals.{add-one}
 use native.Mathlib.Omega.{arith}
 use borrow.Author.Tests.{lt-ltb, le-ltb, eq-eqb, ne-eqb}
 use lib.Dec.{ltb, eqb}
-use lib.ListN.{length, getD, take, drop, length-drop, length-append, length-take}
-use lib.Seq.{paste, slice, length-take-le, drop-cons, drop-drop, take-take, take-append-le, take-append-add, drop-append-add, take-at, drop-at, take-all, take-paste, drop-paste, length-paste}
+use lib.ListN.{length, getD, take, drop, length-drop, length-append}
+use lib.Seq.{paste, slice, length-take-le, drop-cons, drop-drop, take-take, take-append-le, take-append-add, drop-append-add, drop-at, take-all, take-paste, drop-paste}
 use mir.Val.{Fits}
 use mir.Syntax.{w64}
 use Rattle.meaning.specs.Rows.{lowerKey}

@@ -1,6 +1,6 @@
 -- A space that holds a table is checked.
 use mathlib.Core.Path.{_≡_}
-use mathlib.Core.Bool.{Bool, true, _&&_}
+use mathlib.Core.Bool.{true}
 use mathlib.Core.List.{List}
 use Prim.Native.Nat.{ℕ, _+_, _*_, _≤_}
 use native.Mathlib.Omega.{arith}
@@ -11,7 +11,7 @@ use Rattle.meaning.specs.Order.{same}
 use Rattle.meaning.specs.Table.{isTable}
 use Rattle.meaning.proofs.Tests.{and-left, and-right}
 use Rattle.meaning.proofs.Vectors.{same-eq}
-use Rattle.words_layout.specs.Layout.{Laid, isSpelt, holdsTable, tableOf, rewritten, spaceFor, sizeIn, capacityIn, countIn}
+use Rattle.words_layout.specs.Layout.{isSpelt, holdsTable, tableOf, rewritten, spaceFor, sizeIn, capacityIn, countIn}
 use Rattle.table_rules.specs.TableTests.{Headed}
 use Rattle.table_rules.proofs.Holding.{table-headed}
 use Rattle.table_rules.specs.Checked.{Checked}

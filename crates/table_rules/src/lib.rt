@@ -23,8 +23,8 @@ use words_layout::OBJECTS_AT;
 use words_layout::OWN_AT;
 use words_layout::SIZE_AT;
 use words_layout::TABLE_MARK;
-use words_layout::TOTALS_AT;
 use words_layout::TOTAL_WORDS;
+use words_layout::TOTALS_AT;
 use words_tags::RowCount;
 use words_tags::Station;
 
@@ -195,4 +195,3 @@ pub fn is_table(s: &[u32]) -> bool
     }
     false
 }
-

@@ -6,9 +6,9 @@ ghost use Rattle.meaning.specs.Tests.{everyAt};
 ghost use Rattle.meaning.specs.Table.{sumOfEntries, totalBound};
 ghost use Rattle.words_layout.specs.Words.{ofComplement, ofTwoWords, pieces, wordLimit};
 ghost use Rattle.table_rules_clock.specs.ClockTests.{lastKept, totalKept, totalKeptAt};
-use words_layout::TOTAL_WORDS;
 use table_kinds::GROW_COUNTER;
 use table_kinds::UP_DOWN_COUNTER;
+use words_layout::TOTAL_WORDS;
 use words_tags::Station;
 
 const GREATEST_AMOUNT: u64 = 1000000;

@@ -1,8 +1,8 @@
 -- One change after another: what is written is laid again, and two changes are the change of the change.
-use Prim.Native.Nat.{ℕ, zero, suc, _+_, _-_, _*_, _/_, _%_, _≤_, _<_}
+use Prim.Native.Nat.{ℕ, zero, suc, _+_, _-_, _*_, _≤_, _<_}
 use mathlib.Core.Path.{_≡_, refl, sym, ap, _∙_, subst}
-use mathlib.Core.Bool.{Bool, true, false, not, _&&_, cond, false≢true}
-use mathlib.Core.List.{List, [], _∷_, _++_, append-assoc, append-nil, map}
+use mathlib.Core.Bool.{true, false, cond}
+use mathlib.Core.List.{List, [], _∷_, _++_, append-assoc, map}
 use native.Mathlib.Nat.{mul-le-mul-right, suc-mul, zero-mul, div-add-mod'}
 use native.Mathlib.Omega.{arith}
 use borrow.Author.Tests.{ltb-true, ltb-false}
@@ -10,16 +10,13 @@ use lib.Dec.{eqb, ltb}
 use lib.IntN.{ℤ, pos, negsuc}
 use lib.ListN.{length, getD, take, drop, set, replicate, length-append, length-set, length-map, length-drop, length-replicate}
 use lib.Seq.{take-at, drop-at, drop-drop, take-add, length-take-le}
-use Rattle.meaning.specs.Operations.{Operation}
-use Rattle.meaning.specs.Rows.{Row}
-use Rattle.meaning.specs.Table.{Header, Table}
-use Rattle.meaning.specs.Calls.{withRows}
+use Rattle.meaning.specs.Table.{Table}
 use Rattle.meaning.proofs.Tests.{cases}
-use Rattle.words_layout.specs.Words.{complement, ofComplement, inTwoWords, ofTwoWords, pieces, flat, padded}
-use Rattle.words_layout.specs.Layout.{Laid, headWords, tableMark, totalWords, totalOfWords, totalsWords, rowWords, rowOf, frontWords, rowsWords, wordsOf, tableOf, rewritten, beyond, spaceFor, rowsAt, rowsIn, sizeIn, capacityIn, objectsIn, countIn, withClock, withLast, withTotals}
-use Rattle.words_layout.proofs.Pieces.{Wide, Each, map-back, length-pieces, length-flat, pieces-at}
+use Rattle.words_layout.specs.Words.{complement, ofComplement, pieces, flat, padded}
+use Rattle.words_layout.specs.Layout.{Laid, headWords, totalWords, totalOfWords, totalsWords, rowWords, rowOf, frontWords, rowsWords, wordsOf, tableOf, rewritten, beyond, spaceFor, rowsAt, rowsIn, sizeIn, objectsIn, countIn, withClock, withLast, withTotals}
+use Rattle.words_layout.proofs.Pieces.{Wide, Each, length-pieces, length-flat, pieces-at}
 use Rattle.words_layout.proofs.RowWords.{Shaped}
-use Rattle.words_layout.proofs.Whole.{Fit, fit, length-padded, totals-long, wide-totals, rows-wide, wide-rows, length-front, back-each}
+use Rattle.words_layout.proofs.Whole.{fit, length-padded, totals-long, wide-totals, rows-wide, wide-rows, length-front, back-each}
 use Rattle.words_layout.proofs.Reading.{in-a-row, InRange, Well, table-read, short}
 
 -- every 64-bit code reads as a total in range

@@ -1,22 +1,20 @@
 -- Reading what was written gives it back.
-use Prim.Native.Nat.{ℕ, zero, suc, _+_, _-_, _*_, _/_, _%_, _≤_, _<_}
+use Prim.Native.Nat.{ℕ, _+_, _-_, _*_, _%_, _≤_, _<_}
 use mathlib.Core.Path.{_≡_, refl, sym, ap, _∙_}
-use mathlib.Core.Bool.{Bool, true, false, not, _&&_, cond, false≢true}
-use mathlib.Core.List.{List, [], _∷_, _++_, append-assoc, append-nil, map}
+use mathlib.Core.Bool.{true, false, cond}
+use mathlib.Core.List.{List, [], _∷_, _++_, append-assoc, map}
 use native.Mathlib.Omega.{arith}
-use native.Mathlib.Nat.{div-add-mod', mod-eq-of-lt}
+use native.Mathlib.Nat.{div-add-mod'}
 use borrow.Author.Tests.{lt-ltb, le-ltb}
-use lib.Dec.{ltb}
 use lib.IntN.{ℤ, pos, negsuc}
-use lib.ListN.{length, getD, take, drop, replicate, length-drop, length-append, length-replicate, length-map}
+use lib.ListN.{length, take, drop, replicate, length-map}
 use lib.Seq.{take-at, drop-at, drop-drop, take-append-seam}
-use Rattle.meaning.specs.Operations.{Operation}
 use Rattle.meaning.specs.Rows.{Row}
-use Rattle.meaning.specs.Table.{Header, Table}
-use Rattle.words_layout.specs.Words.{complement, ofComplement, inTwoWords, ofTwoWords, pieces, flat, padded}
-use Rattle.words_layout.specs.Layout.{tableMark, totalWords, totalOfWords, totalsWords, rowWords, rowOf, frontWords, rowsWords, wordsOf, tableOf, rowsAt}
-use Rattle.words_layout.proofs.Pieces.{Wide, Each, map-back, pieces-at, length-flat}
-use Rattle.words_layout.proofs.RowWords.{Shaped, row-read, length-row}
+use Rattle.meaning.specs.Table.{Table}
+use Rattle.words_layout.specs.Words.{complement, ofComplement, pieces, flat, padded}
+use Rattle.words_layout.specs.Layout.{tableMark, totalWords, totalOfWords, totalsWords, rowWords, rowOf, rowsWords, wordsOf, tableOf, rowsAt}
+use Rattle.words_layout.proofs.Pieces.{Each, map-back, pieces-at, length-flat}
+use Rattle.words_layout.proofs.RowWords.{Shaped, row-read}
 use Rattle.words_layout.proofs.Whole.{Fit, length-padded, wide-totals, totals-long, wide-rows}
 
 -- a total that 64 bits hold

@@ -1,13 +1,13 @@
 -- A row and its words.
 use Prim.Native.Nat.{ℕ, zero, suc, _+_, _-_, _*_, _/_, _%_, _≤_, _<_}
-use mathlib.Core.Path.{_≡_, refl, sym, ap, _∙_}
-use mathlib.Core.Bool.{Bool, true, false, not, _&&_, cond, false≢true}
-use mathlib.Core.List.{List, [], _∷_, _++_, append-assoc, append-nil, map}
+use mathlib.Core.Path.{_≡_, refl}
+use mathlib.Core.Bool.{Bool, true, false, cond}
+use mathlib.Core.List.{List, [], _∷_, append-nil}
 use native.Mathlib.Omega.{arith}
 use native.Mathlib.Nat.{div-add-mod'}
 use lib.Dec.{eqb}
-use lib.ListN.{length, getD, take, drop, replicate, length-drop, length-append, length-replicate}
-use Rattle.meaning.specs.Operations.{Operation, numberOf}
+use lib.ListN.{length, getD, drop, replicate, length-drop, length-append, length-replicate}
+use Rattle.meaning.specs.Operations.{numberOf}
 use Rattle.meaning.specs.Rows.{Row}
 use Rattle.words_layout.specs.Words.{padded}
 use Rattle.words_layout.specs.Layout.{rowWords, rowOf}

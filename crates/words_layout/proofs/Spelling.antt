@@ -1,22 +1,17 @@
 -- Words that keep the rules of spelling are what would be written for the table that they spell.
 use Prim.Native.Nat.{ℕ, zero, suc, _+_, _-_, _*_, _/_, _%_, _≤_, _<_}
 use mathlib.Core.Path.{_≡_, refl, sym, ap, _∙_}
-use mathlib.Core.Bool.{Bool, true, false, not, _&&_, cond, false≢true}
-use mathlib.Core.List.{List, [], _∷_, _++_, append-assoc, append-nil, map}
+use mathlib.Core.List.{List, [], _∷_, _++_, map}
 use native.Mathlib.Omega.{arith}
-use native.Mathlib.Nat.{mul-le-mul-right, suc-mul}
-use borrow.Author.Tests.{ltb-true, ltb-false}
+use native.Mathlib.Nat.{mul-le-mul-right}
+use borrow.Author.Tests.{ltb-false}
 use lib.Dec.{ltb}
-use lib.IntN.{ℤ, pos, negsuc}
-use lib.ListN.{length, getD, take, drop, replicate, length-drop, length-take, length-append, length-replicate, length-map, take-append-drop}
-use lib.Seq.{drop-drop, take-add, length-take-le, getD-take, getD-drop}
-use Rattle.meaning.specs.Operations.{Operation}
-use Rattle.meaning.specs.Rows.{Row}
-use Rattle.meaning.specs.Table.{Header, Table}
+use lib.ListN.{length, getD, take, drop, replicate, length-drop, length-map, take-append-drop}
+use lib.Seq.{drop-drop, take-add, length-take-le, getD-drop}
 use Rattle.meaning.proofs.Tests.{cases}
-use Rattle.words_layout.specs.Words.{complement, ofComplement, inTwoWords, ofTwoWords, pieces, flat, padded}
-use Rattle.words_layout.specs.Layout.{tableMark, totalWords, totalOfWords, totalsWords, rowWords, rowOf, frontWords, rowsWords, wordsOf, tableOf, rewritten, beyond, spaceFor, rowsAt, rowsIn, sizeIn, capacityIn, objectsIn, countIn}
-use Rattle.words_layout.proofs.Pieces.{Wide, Each, map-back, flat-pieces, length-pieces, wide-pieces, length-flat}
+use Rattle.words_layout.specs.Words.{complement, ofComplement, ofTwoWords, pieces, flat, padded}
+use Rattle.words_layout.specs.Layout.{tableMark, totalWords, totalOfWords, totalsWords, rowWords, rowOf, wordsOf, tableOf, rewritten, beyond, spaceFor, rowsAt, rowsIn, sizeIn, capacityIn, objectsIn, countIn}
+use Rattle.words_layout.proofs.Pieces.{Each, map-back, flat-pieces, length-pieces}
 use Rattle.words_layout.proofs.RowWords.{Spelt, row-written}
 use Rattle.words_layout.proofs.Reading.{in-a-row}
 

@@ -1,22 +1,21 @@
 -- A table and its words: what words that spell a table are made of, and other rows put in their place.
-use Prim.Native.Nat.{ℕ, zero, suc, _+_, _-_, _*_, _/_, _%_, _≤_, _<_}
+use Prim.Native.Nat.{ℕ, zero, suc, _+_, _-_, _*_, _≤_}
 use mathlib.Core.Path.{_≡_, refl, sym, ap, _∙_}
-use mathlib.Core.Bool.{Bool, true, false, not, _&&_, cond, false≢true}
-use mathlib.Core.List.{List, [], _∷_, _++_, append-assoc, append-nil, map}
+use mathlib.Core.Bool.{Bool, true, false, cond}
+use mathlib.Core.List.{List, [], _∷_, _++_, append-assoc, map}
 use native.Mathlib.Omega.{arith}
-use native.Mathlib.Nat.{suc-mul, zero-mul, mul-le-mul-right, mul-le-mul}
-use lib.IntN.{ℤ, pos, negsuc}
-use lib.ListN.{length, getD, take, drop, set, replicate, length-drop, length-append, length-replicate, length-map, take-append-drop, replicate-append-replicate, length-take, drop-of-length-le}
-use lib.Seq.{take-at, drop-at, length-take-le, drop-drop, take-add, set-append-left, take-all}
+use native.Mathlib.Nat.{mul-le-mul-right}
+use lib.IntN.{ℤ}
+use lib.ListN.{length, getD, take, drop, set, replicate, length-drop, length-append, length-replicate, length-map, replicate-append-replicate, length-take}
+use lib.Seq.{take-at, drop-at, length-take-le}
 use Rattle.meaning.specs.Tests.{those}
-use Rattle.meaning.specs.Operations.{Operation}
 use Rattle.meaning.specs.Rows.{Row}
-use Rattle.meaning.specs.Table.{Header, Table}
+use Rattle.meaning.specs.Table.{Table}
 use Rattle.meaning.specs.Calls.{withRows}
 use Rattle.words_layout.specs.Words.{pieces, flat, padded}
-use Rattle.words_layout.specs.Layout.{Laid, totalWords, totalOfWords, totalsWords, rowWords, rowOf, frontWords, rowsWords, wordsOf, tableOf, rewritten, beyond, spaceFor, rowsAt, rowsIn, sizeIn, capacityIn, objectsIn, countIn}
-use Rattle.words_layout.proofs.Pieces.{Wide, Each, each-those, map-back, those-map, flat-pieces, length-pieces, length-flat, wide-pieces, pieces-flat, pieces-at, wide-those}
-use Rattle.words_layout.proofs.RowWords.{Shaped, row-read, length-row, short-row}
+use Rattle.words_layout.specs.Layout.{Laid, totalWords, totalOfWords, totalsWords, rowWords, rowOf, frontWords, rowsWords, wordsOf, tableOf, rewritten, beyond, rowsAt, rowsIn, sizeIn, capacityIn, objectsIn, countIn}
+use Rattle.words_layout.proofs.Pieces.{Wide, Each, each-those, map-back, those-map, length-pieces, length-flat, wide-pieces, pieces-at, wide-those}
+use Rattle.words_layout.proofs.RowWords.{length-row, short-row}
 
 -- the parts of a table record are as long as its header says
 pub record Fit (t : Table) : Type 0 where

@@ -1,16 +1,15 @@
 -- A table, written as words, and words, read as a table. docs/FORMAT.md shows every word.
-use Prim.Native.Nat.{ℕ, zero, suc, _+_, _-_, _*_, _/_, _%_, _≤_}
+use Prim.Native.Nat.{ℕ, _+_, _*_, _/_, _%_, _≤_}
 use mathlib.Core.Path.{_≡_}
-use mathlib.Core.Bool.{Bool, true, false, not, _&&_, cond}
+use mathlib.Core.Bool.{Bool, _&&_, cond}
 use mathlib.Core.List.{List, [], _∷_, _++_, map}
 use lib.Dec.{leb, eqb}
 use lib.IntN.{ℤ}
 use lib.ListN.{length, getD, take, drop}
-use Rattle.meaning.specs.Tests.{allHold}
 use Rattle.meaning.specs.Order.{Vector, same}
-use Rattle.meaning.specs.Operations.{Operation, numberOf}
+use Rattle.meaning.specs.Operations.{numberOf}
 use Rattle.meaning.specs.Rows.{Row}
-use Rattle.meaning.specs.Table.{Header, Table, mostObjects, isTable}
+use Rattle.meaning.specs.Table.{Table, mostObjects, isTable}
 use Rattle.words_layout.specs.Words.{wordLimit, inTwoWords, ofTwoWords, complement, ofComplement, pieces, flat, padded}
 
 -- Where the parts of a table of N stations stand: seven words of head, the kinds, the totals, D, L, the rows.

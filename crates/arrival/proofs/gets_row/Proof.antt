@@ -1,8 +1,6 @@
 use Rattle.arrival.proofs.Putting.{gets-clear, gets-add, gets-flag, gets-remove}
 use Rattle.arrival.proofs.gets_row.Statement.{statement}
 use Rattle.arrival.proofs.gets_row.Tie as tie
-use Rattle.arrival.proofs.gets_row.Reads as reads
-use Rattle.arrival.proofs.gets_row.Lts as lts
 
 returns : tie.Need-returns
 returns c = search gets-clear

@@ -3,9 +3,6 @@ use Rattle.table_drop.proofs.Dropping.{row-room, row-wide}
 use borrow.Author.Needs.{needs}
 use Rattle.arrival.proofs.has_value.Statement.{statement}
 use Rattle.arrival.proofs.has_value.Tie as tie
-use Rattle.arrival.proofs.has_value.Reads as reads
-use Rattle.arrival.proofs.has_value.Lts as lts
-use Rattle.table_drop.proofs.same_value.Reads as same-value-reads
 
 abbrev Inv-loop : tie.InvT-loop
 Inv-loop rows width a v from₀ more₀ from more = Looking a v width more₀ rows from more
@@ -16,21 +13,6 @@ abbrev μ-loop : tie.MeasureT-loop
 loop-holds : tie.Need-loop-holds Inv-loop μ-loop
 loop-holds c = search looking-start
 
-sub-more : tie.Need-sub-more Inv-loop μ-loop
-sub-more c = search needs
-
-add-end : tie.Need-add-end Inv-loop μ-loop
-add-end c = search needs
-
-mul-same-value : tie.Need-mul-same-value Inv-loop μ-loop
-mul-same-value c = search needs
-
-sub-same-value : tie.Need-sub-same-value Inv-loop μ-loop
-sub-same-value c = search needs
-
-part-same-value-start : tie.Need-part-same-value-start Inv-loop μ-loop
-part-same-value-start c = search needs
-
 part-same-value-end : tie.Need-part-same-value-end Inv-loop μ-loop
 part-same-value-end c = search row-room
 
@@ -39,9 +21,6 @@ same-value-requires c κs = search (row-wide, row-room)
 
 returns : tie.Need-returns Inv-loop μ-loop
 returns c = search looking-found
-
-loop-less : tie.Need-loop-less Inv-loop μ-loop
-loop-less c = search needs
 
 loop-again : tie.Need-loop-again Inv-loop μ-loop
 loop-again c = search looking-on
@@ -56,14 +35,14 @@ has-value-spec =
     Inv-loop
     μ-loop
     loop-holds
-    sub-more
-    add-end
-    mul-same-value
-    sub-same-value
-    part-same-value-start
+    (λ c. search needs)
+    (λ c. search needs)
+    (λ c. search needs)
+    (λ c. search needs)
+    (λ c. search needs)
     part-same-value-end
     same-value-requires
     returns
-    loop-less
+    (λ c. search needs)
     loop-again
     returns-2)

@@ -3,30 +3,9 @@ use Rattle.table_change.proofs.Changing.{opened}
 use borrow.Author.Needs.{needs}
 use Rattle.arrival_frame.proofs.frame_number.Statement.{statement}
 use Rattle.arrival_frame.proofs.frame_number.Tie as tie
-use Rattle.arrival_frame.proofs.frame_number.Reads as reads
-use Rattle.arrival_frame.proofs.frame_number.Lts as lts
-use Rattle.arrival.proofs.arrival_of.Reads as arrival-of-reads
-use Rattle.arrival.proofs.has_room.Reads as has-room-reads
-use Rattle.arrival_frame.proofs.early_number.Reads as early-number-reads
-use Rattle.words_tags.proofs.wide.Reads as wide-reads
-
-shared-slice-read-wide : tie.Need-shared-slice-read-wide
-shared-slice-read-wide c = search needs
-
-wide-requires : tie.Need-wide-requires
-wide-requires c κs = search needs
-
-shared-slice-read-t10 : tie.Need-shared-slice-read-t10
-shared-slice-read-t10 c = search needs
-
-early-number-requires : tie.Need-early-number-requires
-early-number-requires c κs = search needs
 
 returns : tie.Need-returns
 returns c = search number-early
-
-arrival-of-requires : tie.Need-arrival-of-requires
-arrival-of-requires c κs = search needs
 
 has-room-requires : tie.Need-has-room-requires
 has-room-requires c κs = (search opened, search needs)
@@ -41,12 +20,12 @@ pub frame-number-spec : {M : Type 1} → statement M
 frame-number-spec =
     tie.close
     (tie.spec
-    shared-slice-read-wide
-    wide-requires
-    shared-slice-read-t10
-    early-number-requires
+    (λ c. search needs)
+    (λ c κs. search needs)
+    (λ c. search needs)
+    (λ c κs. search needs)
     returns
-    arrival-of-requires
+    (λ c κs. search needs)
     has-room-requires
     returns-2
     returns-3)

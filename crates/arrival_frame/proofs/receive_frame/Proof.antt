@@ -2,25 +2,9 @@ use Rattle.arrival_frame.proofs.Receiving.{receive-refused, receive-tak
 use borrow.Author.Needs.{needs}
 use Rattle.arrival_frame.proofs.receive_frame.Statement.{statement}
 use Rattle.arrival_frame.proofs.receive_frame.Tie as tie
-use Rattle.arrival_frame.proofs.receive_frame.Reads as reads
-use Rattle.arrival_frame.proofs.receive_frame.Lts as lts
-use Rattle.arrival_frame.proofs.frame_number.Reads as frame-number-reads
-use Rattle.arrival_frame.proofs.take_frame.Reads as take-frame-reads
-
-frame-number-requires : tie.Need-frame-number-requires
-frame-number-requires c κs = search needs
-
-same-length : tie.Need-same-length
-same-length c = search needs
 
 returns : tie.Need-returns
 returns c = search receive-refused
-
-take-frame-requires : tie.Need-take-frame-requires
-take-frame-requires c κs = search needs
-
-same-length-2 : tie.Need-same-length-2
-same-length-2 c = search needs
 
 returns-2 : tie.Need-returns-2
 returns-2 c = search receive-taken
@@ -29,9 +13,9 @@ pub receive-frame-spec : {M : Type 1} → statement M
 receive-frame-spec =
     tie.close
     (tie.spec
-    frame-number-requires
-    same-length
+    (λ c κs. search needs)
+    (λ c. search needs)
     returns
-    take-frame-requires
-    same-length-2
+    (λ c κs. search needs)
+    (λ c. search needs)
     returns-2)

@@ -1,10 +1,6 @@
 use Rattle.form_lines.proofs.Parts.{settled-byte, unsettled-byte}
-use native.Mathlib.Omega.{arith}
-use borrow.Author.Needs.{needs}
 use Rattle.form_lines.proofs.settled_byte.Statement.{statement}
 use Rattle.form_lines.proofs.settled_byte.Tie as tie
-use Rattle.form_lines.proofs.settled_byte.Reads as reads
-use Rattle.form_lines.proofs.settled_byte.Lts as lts
 
 returns : tie.Need-returns
 returns c = search settled-byte

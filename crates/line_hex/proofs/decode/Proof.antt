@@ -18,41 +18,17 @@ loop-holds c = search decoding-start
 pair-at-requires : tie.Need-pair-at-requires Inv-loop μ-loop
 pair-at-requires c κs = tt
 
-enum-known-byte : tie.Need-enum-known-byte Inv-loop μ-loop
-enum-known-byte c = search needs
-
-slice-write-into : tie.Need-slice-write-into Inv-loop μ-loop
-slice-write-into c = search needs
-
-add-count : tie.Need-add-count Inv-loop μ-loop
-add-count c = search needs
-
-add-at : tie.Need-add-at Inv-loop μ-loop
-add-at c = search needs
-
-loop-less : tie.Need-loop-less Inv-loop μ-loop
-loop-less c = search needs
-
 loop-again : tie.Need-loop-again Inv-loop μ-loop
 loop-again c = search decoding-turn
 
-enum-told : tie.Need-enum-told Inv-loop μ-loop
-enum-told c = search needs
-
 ended-at-requires : tie.Need-ended-at-requires Inv-loop μ-loop
 ended-at-requires c κs = tt
-
-same-length : tie.Need-same-length Inv-loop μ-loop
-same-length c = search needs
 
 returns : tie.Need-returns Inv-loop μ-loop
 returns c = search decoding-stopped
 
 ended-at-requires-2 : tie.Need-ended-at-requires-2 Inv-loop μ-loop
 ended-at-requires-2 c κs = tt
-
-same-length-2 : tie.Need-same-length-2 Inv-loop μ-loop
-same-length-2 c = search needs
 
 returns-2 : tie.Need-returns-2 Inv-loop μ-loop
 returns-2 c = search decoding-full
@@ -65,16 +41,16 @@ decode-spec =
     μ-loop
     loop-holds
     pair-at-requires
-    enum-known-byte
-    slice-write-into
-    add-count
-    add-at
-    loop-less
+    (λ c. search needs)
+    (λ c. search needs)
+    (λ c. search needs)
+    (λ c. search needs)
+    (λ c. search needs)
     loop-again
-    enum-told
+    (λ c. search needs)
     ended-at-requires
-    same-length
+    (λ c. search needs)
     returns
     ended-at-requires-2
-    same-length-2
+    (λ c. search needs)
     returns-2)

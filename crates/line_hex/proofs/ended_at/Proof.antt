@@ -4,12 +4,6 @@ use borrow.Author.Needs.{needs}
 use Rattle.line_hex.proofs.ended_at.Statement.{statement}
 use Rattle.line_hex.proofs.ended_at.Tie as tie
 
-sub-last : tie.Need-sub-last
-sub-last c = search needs
-
-shared-slice-read-if3 : tie.Need-shared-slice-read-if3
-shared-slice-read-if3 c = search needs
-
 returns : tie.Need-returns
 returns c = ended-lf (c .before .before .before .before .args .line .now) (c .before .before .before .before .args .at) (c .before .before .before .before .args .count) (search needs) (search needs) (search needs)
 
@@ -24,4 +18,4 @@ returns-4 c = search ended-past
 
 pub ended-at-spec : {M : Type 1} → statement M
 ended-at-spec =
-    tie.close (tie.spec sub-last shared-slice-read-if3 returns returns-2 returns-3 returns-4)
+    tie.close (tie.spec (λ c. search needs) (λ c. search needs) returns returns-2 returns-3 returns-4)

@@ -12,44 +12,20 @@ Inv-loop out₀ at number width end to₀ left₀ rest₀ out to left rest = Put
 abbrev μ-loop : tie.MeasureT-loop
 μ-loop out₀ at number width end to₀ left₀ rest₀ out to left rest = left
 
-mul-end : tie.Need-mul-end Inv-loop μ-loop
-mul-end c = search needs
-
-add-end : tie.Need-add-end Inv-loop μ-loop
-add-end c = search needs
-
 loop-holds : tie.Need-loop-holds Inv-loop μ-loop
 loop-holds c = search (putting-start, arith)
-
-sub-left : tie.Need-sub-left Inv-loop μ-loop
-sub-left c = search needs
-
-sub-to : tie.Need-sub-to Inv-loop μ-loop
-sub-to c = search needs
 
 digit-of-requires : tie.Need-digit-of-requires Inv-loop μ-loop
 digit-of-requires c κs = tt
 
-slice-write-out : tie.Need-slice-write-out Inv-loop μ-loop
-slice-write-out c = search needs
-
 digit-of-requires-2 : tie.Need-digit-of-requires-2 Inv-loop μ-loop
 digit-of-requires-2 c κs = tt
-
-add-out : tie.Need-add-out Inv-loop μ-loop
-add-out c = search needs
 
 slice-write-out-2 : tie.Need-slice-write-out-2 Inv-loop μ-loop
 slice-write-out-2 c = simp length-set (omega arith)
 
-loop-less : tie.Need-loop-less Inv-loop μ-loop
-loop-less c = search needs
-
 loop-again : tie.Need-loop-again Inv-loop μ-loop
 loop-again c = search putting-turn
-
-same-length : tie.Need-same-length Inv-loop μ-loop
-same-length c = search needs
 
 returns : tie.Need-returns Inv-loop μ-loop
 returns c = search putting-done
@@ -60,17 +36,17 @@ put-number-spec =
     (tie.spec
     Inv-loop
     μ-loop
-    mul-end
-    add-end
+    (λ c. search needs)
+    (λ c. search needs)
     loop-holds
-    sub-left
-    sub-to
+    (λ c. search needs)
+    (λ c. search needs)
     digit-of-requires
-    slice-write-out
+    (λ c. search needs)
     digit-of-requires-2
-    add-out
+    (λ c. search needs)
     slice-write-out-2
-    loop-less
+    (λ c. search needs)
     loop-again
-    same-length
+    (λ c. search needs)
     returns)

@@ -4,9 +4,6 @@ use borrow.Author.Needs.{needs}
 use Rattle.line_hex.proofs.value_of.Statement.{statement}
 use Rattle.line_hex.proofs.value_of.Tie as tie
 
-add-result : tie.Need-add-result
-add-result c = search needs
-
 returns : tie.Need-returns
 returns c = search value-low
 
@@ -23,4 +20,4 @@ returns-5 : tie.Need-returns-5
 returns-5 c = value-high (c .before .before .before .before .args .c) (search needs) (search needs) (search needs) (search needs)
 
 pub value-of-spec : {M : Type 1} → statement M
-value-of-spec = tie.close (tie.spec add-result returns returns-2 returns-3 returns-4 returns-5)
+value-of-spec = tie.close (tie.spec (λ c. search needs) returns returns-2 returns-3 returns-4 returns-5)

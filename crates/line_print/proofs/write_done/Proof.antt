@@ -8,20 +8,8 @@ use borrow.Author.Needs.{needs}
 use Rattle.line_print.proofs.write_done.Statement.{statement}
 use Rattle.line_print.proofs.write_done.Tie as tie
 
-cast-t4 : tie.Need-cast-t4
-cast-t4 c = search needs
-
-slice-aggregate-write-alone : tie.Need-slice-aggregate-write-alone
-slice-aggregate-write-alone c = search needs
-
-slice-aggregate-write-alone-2 : tie.Need-slice-aggregate-write-alone-2
-slice-aggregate-write-alone-2 c = search needs
-
 write-alone-requires : tie.Need-write-alone-requires
 write-alone-requires c κs = sayable done refl _ _ refl (omega arith)
-
-same-length : tie.Need-same-length
-same-length c = search needs
 
 returns : tie.Need-returns
 unfolding printed
@@ -31,9 +19,9 @@ pub write-done-spec : {M : Type 1} → statement M
 write-done-spec =
     tie.close
     (tie.spec
-    cast-t4
-    slice-aggregate-write-alone
-    slice-aggregate-write-alone-2
+    (λ c. search needs)
+    (λ c. search needs)
+    (λ c. search needs)
     write-alone-requires
-    same-length
+    (λ c. search needs)
     returns)

@@ -8,20 +8,8 @@ use borrow.Author.Needs.{needs}
 use Rattle.line_print.proofs.write_last.Statement.{statement}
 use Rattle.line_print.proofs.write_last.Tie as tie
 
-cast-t6 : tie.Need-cast-t6
-cast-t6 c = search needs
-
-slice-aggregate-write-fields : tie.Need-slice-aggregate-write-fields
-slice-aggregate-write-fields c = search needs
-
-slice-aggregate-write-fields-2 : tie.Need-slice-aggregate-write-fields-2
-slice-aggregate-write-fields-2 c = search needs
-
 write-fields-requires : tie.Need-write-fields-requires
 write-fields-requires c κs = sayable lastVector refl _ _ refl (omega arith)
-
-same-length : tie.Need-same-length
-same-length c = search needs
 
 returns : tie.Need-returns
 unfolding printed
@@ -31,9 +19,9 @@ pub write-last-spec : {M : Type 1} → statement M
 write-last-spec =
     tie.close
     (tie.spec
-    cast-t6
-    slice-aggregate-write-fields
-    slice-aggregate-write-fields-2
+    (λ c. search needs)
+    (λ c. search needs)
+    (λ c. search needs)
     write-fields-requires
-    same-length
+    (λ c. search needs)
     returns)

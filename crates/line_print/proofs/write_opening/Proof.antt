@@ -8,23 +8,8 @@ use borrow.Author.Needs.{needs}
 use Rattle.line_print.proofs.write_opening.Statement.{statement}
 use Rattle.line_print.proofs.write_opening.Tie as tie
 
-cast-objects : tie.Need-cast-objects
-cast-objects c = search needs
-
-cast-t10 : tie.Need-cast-t10
-cast-t10 c = search needs
-
-slice-aggregate-write-fields : tie.Need-slice-aggregate-write-fields
-slice-aggregate-write-fields c = search needs
-
-slice-aggregate-write-fields-2 : tie.Need-slice-aggregate-write-fields-2
-slice-aggregate-write-fields-2 c = search needs
-
 write-fields-requires : tie.Need-write-fields-requires
 write-fields-requires c κs = sayable opening refl _ _ refl (omega arith)
-
-same-length : tie.Need-same-length
-same-length c = search needs
 
 returns : tie.Need-returns
 unfolding printed
@@ -34,10 +19,10 @@ pub write-opening-spec : {M : Type 1} → statement M
 write-opening-spec =
     tie.close
     (tie.spec
-    cast-objects
-    cast-t10
-    slice-aggregate-write-fields
-    slice-aggregate-write-fields-2
+    (λ c. search needs)
+    (λ c. search needs)
+    (λ c. search needs)
+    (λ c. search needs)
     write-fields-requires
-    same-length
+    (λ c. search needs)
     returns)

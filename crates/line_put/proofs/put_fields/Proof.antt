@@ -16,32 +16,14 @@ abbrev μ-loop : tie.MeasureT-loop
 loop-holds : tie.Need-loop-holds Inv-loop μ-loop
 loop-holds c = search fielding-start
 
-mul-put-number : tie.Need-mul-put-number Inv-loop μ-loop
-mul-put-number c = search needs
-
-shared-slice-read-put-number : tie.Need-shared-slice-read-put-number Inv-loop μ-loop
-shared-slice-read-put-number c = search needs
-
-shared-slice-read-put-number-2 : tie.Need-shared-slice-read-put-number-2 Inv-loop μ-loop
-shared-slice-read-put-number-2 c = search needs
-
 cast-put-number : tie.Need-cast-put-number Inv-loop μ-loop
 cast-put-number c = omega (arith, c .shared-slice-known4 .given (c .before .before .before .before .loop .i))
 
 put-number-requires : tie.Need-put-number-requires Inv-loop μ-loop
 put-number-requires c κs = search fielding-room
 
-add-i : tie.Need-add-i Inv-loop μ-loop
-add-i c = search needs
-
-loop-less : tie.Need-loop-less Inv-loop μ-loop
-loop-less c = search needs
-
 loop-again : tie.Need-loop-again Inv-loop μ-loop
 loop-again c = search fielding-turn
-
-same-length : tie.Need-same-length Inv-loop μ-loop
-same-length c = search needs
 
 returns : tie.Need-returns Inv-loop μ-loop
 returns c = search fielding-done
@@ -53,13 +35,13 @@ put-fields-spec =
     Inv-loop
     μ-loop
     loop-holds
-    mul-put-number
-    shared-slice-read-put-number
-    shared-slice-read-put-number-2
+    (λ c. search needs)
+    (λ c. search needs)
+    (λ c. search needs)
     cast-put-number
     put-number-requires
-    add-i
-    loop-less
+    (λ c. search needs)
+    (λ c. search needs)
     loop-again
-    same-length
+    (λ c. search needs)
     returns)

@@ -5,9 +5,6 @@ use borrow.Author.Needs.{needs}
 use Rattle.line_put.proofs.write_fields.Statement.{statement}
 use Rattle.line_put.proofs.write_fields.Tie as tie
 
-length-of-requires : tie.Need-length-of-requires
-length-of-requires c κs = search needs
-
 mul-size : tie.Need-mul-size
 mul-size c = search each-fits
 
@@ -20,17 +17,11 @@ mul-if1 c = search double-fits
 returns : tie.Need-returns
 returns c = search (write-short, le-of-lt)
 
-put-fields-requires : tie.Need-put-fields-requires
-put-fields-requires c κs = search needs
-
 put-each-requires : tie.Need-put-each-requires
 put-each-requires c κs = search (write-room, le-of-lt)
 
 put-lf-requires : tie.Need-put-lf-requires
 put-lf-requires c κs = search (write-end, le-of-lt)
-
-same-length : tie.Need-same-length
-same-length c = search needs
 
 returns-2 : tie.Need-returns-2
 returns-2 c = search (write-done, le-of-lt)
@@ -39,13 +30,13 @@ pub write-fields-spec : {M : Type 1} → statement M
 write-fields-spec =
     tie.close
     (tie.spec
-    length-of-requires
+    (λ c κs. search needs)
     mul-size
     add-size
     mul-if1
     returns
-    put-fields-requires
+    (λ c κs. search needs)
     put-each-requires
     put-lf-requires
-    same-length
+    (λ c. search needs)
     returns-2)

@@ -6,12 +6,9 @@ use borrow.Author.Needs.{needs}
 use Rattle.line_read.proofs.read_printing.Statement.{statement}
 use Rattle.line_read.proofs.read_printing.Tie as tie
 
-has-shape-requires : tie.Need-has-shape-requires
-has-shape-requires c κs = search needs
-
 returns : tie.Need-returns
 unfolding printingRead isOf lengthOf
 returns c = c .has-shape .ensures
 
 pub read-printing-spec : {M : Type 1} → statement M
-read-printing-spec = tie.close (tie.spec has-shape-requires returns)
+read-printing-spec = tie.close (tie.spec (λ c κs. search needs) returns)

@@ -17,26 +17,8 @@ loop-holds c = gathering-start _ _ _ (c .before .pre .0) (c .before .pre .1)
 four-at-requires : tie.Need-four-at-requires Inv-loop μ-loop
 four-at-requires c κs = tt
 
-enum-known-entry : tie.Need-enum-known-entry Inv-loop μ-loop
-enum-known-entry c = search needs
-
-mul-vector : tie.Need-mul-vector Inv-loop μ-loop
-mul-vector c = search needs
-
-array-write-vector : tie.Need-array-write-vector Inv-loop μ-loop
-array-write-vector c = search needs
-
-add-i : tie.Need-add-i Inv-loop μ-loop
-add-i c = search needs
-
-loop-less : tie.Need-loop-less Inv-loop μ-loop
-loop-less c = search needs
-
 loop-again : tie.Need-loop-again Inv-loop μ-loop
 loop-again c = search gathering-turn
-
-enum-told : tie.Need-enum-told Inv-loop μ-loop
-enum-told c = search needs
 
 returns : tie.Need-returns Inv-loop μ-loop
 returns c = search gathering-never
@@ -52,12 +34,12 @@ entries-at-spec =
     μ-loop
     loop-holds
     four-at-requires
-    enum-known-entry
-    mul-vector
-    array-write-vector
-    add-i
-    loop-less
+    (λ c. search needs)
+    (λ c. search needs)
+    (λ c. search needs)
+    (λ c. search needs)
+    (λ c. search needs)
     loop-again
-    enum-told
+    (λ c. search needs)
     returns
     returns-2)

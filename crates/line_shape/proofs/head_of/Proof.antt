@@ -16,29 +16,14 @@ abbrev μ-loop : tie.MeasureT-loop
 loop-holds : tie.Need-loop-holds Inv-loop μ-loop
 loop-holds c = search heading-start
 
-shared-slice-read-width : tie.Need-shared-slice-read-width Inv-loop μ-loop
-shared-slice-read-width c = search needs
-
 cast-width : tie.Need-cast-width Inv-loop μ-loop
 cast-width c = omega (arith, c .shared-slice-known3 .given (c .before .before .loop .i))
 
 number-at-requires : tie.Need-number-at-requires Inv-loop μ-loop
 number-at-requires c κs = search head-width
 
-mul-head : tie.Need-mul-head Inv-loop μ-loop
-mul-head c = search needs
-
-array-write-head : tie.Need-array-write-head Inv-loop μ-loop
-array-write-head c = search needs
-
 add-at : tie.Need-add-at Inv-loop μ-loop
 add-at c = omega (arith, head-width _ (c .before .before .before .loop .i) (c .before .before .before .before .before .before .pre), c .before .before .before .before .before .before .pre .few)
-
-add-i : tie.Need-add-i Inv-loop μ-loop
-add-i c = search needs
-
-loop-less : tie.Need-loop-less Inv-loop μ-loop
-loop-less c = search needs
 
 loop-again : tie.Need-loop-again Inv-loop μ-loop
 loop-again c = search heading-turn
@@ -53,13 +38,13 @@ head-of-spec =
     Inv-loop
     μ-loop
     loop-holds
-    shared-slice-read-width
+    (λ c. search needs)
     cast-width
     number-at-requires
-    mul-head
-    array-write-head
+    (λ c. search needs)
+    (λ c. search needs)
     add-at
-    add-i
-    loop-less
+    (λ c. search needs)
+    (λ c. search needs)
     loop-again
     returns)

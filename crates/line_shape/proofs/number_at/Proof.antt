@@ -16,9 +16,6 @@ loop-holds c = search counting-start
 byte-at-requires : tie.Need-byte-at-requires Inv-loop μ-loop
 byte-at-requires c κs = tt
 
-enum-known-byte : tie.Need-enum-known-byte Inv-loop μ-loop
-enum-known-byte c = search needs
-
 mul-number : tie.Need-mul-number Inv-loop μ-loop
 mul-number c = search counting-shift
 
@@ -28,17 +25,8 @@ wide-requires c κs = tt
 add-number : tie.Need-add-number Inv-loop μ-loop
 add-number c = search counting-add
 
-sub-left : tie.Need-sub-left Inv-loop μ-loop
-sub-left c = search needs
-
-loop-less : tie.Need-loop-less Inv-loop μ-loop
-loop-less c = search needs
-
 loop-again : tie.Need-loop-again Inv-loop μ-loop
 loop-again c = search counting-turn
-
-enum-told : tie.Need-enum-told Inv-loop μ-loop
-enum-told c = search needs
 
 returns : tie.Need-returns Inv-loop μ-loop
 returns c = search counting-ended
@@ -54,13 +42,13 @@ number-at-spec =
     μ-loop
     loop-holds
     byte-at-requires
-    enum-known-byte
+    (λ c. search needs)
     mul-number
     wide-requires
     add-number
-    sub-left
-    loop-less
+    (λ c. search needs)
+    (λ c. search needs)
     loop-again
-    enum-told
+    (λ c. search needs)
     returns
     returns-2)

@@ -15,26 +15,11 @@ loop-holds c = search writing-start
 next-value-requires : tie.Need-next-value-requires Inv-loop μ-loop
 next-value-requires c κs = (search needs, search one-left)
 
-mul-out : tie.Need-mul-out Inv-loop μ-loop
-mul-out c = search needs
-
 slice-write-out : tie.Need-slice-write-out Inv-loop μ-loop
 slice-write-out c = search to-within
 
-add-to : tie.Need-add-to Inv-loop μ-loop
-add-to c = search needs
-
-sub-left : tie.Need-sub-left Inv-loop μ-loop
-sub-left c = search needs
-
-loop-less : tie.Need-loop-less Inv-loop μ-loop
-loop-less c = search needs
-
 loop-again : tie.Need-loop-again Inv-loop μ-loop
 loop-again c = search writing-next
-
-same-length : tie.Need-same-length Inv-loop μ-loop
-same-length c = search needs
 
 returns : tie.Need-returns Inv-loop μ-loop
 returns c = search writing-done
@@ -47,11 +32,11 @@ list-into-spec =
     μ-loop
     loop-holds
     next-value-requires
-    mul-out
+    (λ c. search needs)
     slice-write-out
-    add-to
-    sub-left
-    loop-less
+    (λ c. search needs)
+    (λ c. search needs)
+    (λ c. search needs)
     loop-again
-    same-length
+    (λ c. search needs)
     returns)

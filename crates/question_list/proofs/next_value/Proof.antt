@@ -3,32 +3,17 @@ use Rattle.question_list.proofs.Walks.{passed-most, passed-fits, from-f
 use Rattle.question_list.proofs.next_value.Statement.{statement}
 use Rattle.question_list.proofs.next_value.Tie as tie
 
-row-width-requires : tie.Need-row-width-requires
-row-width-requires c κs = search needs
-
-rows-start-requires : tie.Need-rows-start-requires
-rows-start-requires c κs = search needs
-
-wide-requires : tie.Need-wide-requires
-wide-requires c κs = search needs
-
 mul-from : tie.Need-mul-from
 mul-from c = search passed-fits
 
 add-from : tie.Need-add-from
 add-from c = search from-fits
 
-shared-slice-read-t13 : tie.Need-shared-slice-read-t13
-shared-slice-read-t13 c = search needs
-
 sub-t14 : tie.Need-sub-t14
 sub-t14 c = search passed-most
 
 next-shown-requires : tie.Need-next-shown-requires
 next-shown-requires c κs = (search rest-room, search needs)
-
-wide-requires-2 : tie.Need-wide-requires-2
-wide-requires-2 c κs = search needs
 
 mul-at : tie.Need-mul-at
 mul-at c = search before-fits
@@ -58,15 +43,15 @@ pub next-value-spec : {M : Type 1} → statement M
 next-value-spec =
     tie.close
     (tie.spec
-    row-width-requires
-    rows-start-requires
-    wide-requires
+    (λ c κs. search needs)
+    (λ c κs. search needs)
+    (λ c κs. search needs)
     mul-from
     add-from
-    shared-slice-read-t13
+    (λ c. search needs)
     sub-t14
     next-shown-requires
-    wide-requires-2
+    (λ c κs. search needs)
     mul-at
     add-at
     add-t10

@@ -4,10 +4,6 @@ use native.Mathlib.Omega.{arith}
 use borrow.Author.Needs.{needs}
 use Rattle.question_scan.proofs.count_shown.Statement.{statement}
 use Rattle.question_scan.proofs.count_shown.Tie as tie
-use Rattle.question_scan.proofs.count_shown.Reads as reads
-use Rattle.question_scan.proofs.count_shown.Lts as lts
-use Rattle.question_scan.proofs.next_shown.Reads as next-shown-reads
-use Rattle.words_tags.proofs.wide.Reads as wide-reads
 
 abbrev Inv-loop : tie.InvT-loop
 Inv-loop rows width object at₀ more₀ found₀ at more found = Passing rows width 0 more₀ (countShown object) at more found
@@ -27,9 +23,6 @@ returns c = search counting-none
 add-step : tie.Need-add-step Inv-loop μ-loop
 add-step c = search (step-small, arith)
 
-wide-requires : tie.Need-wide-requires Inv-loop μ-loop
-wide-requires c κs = search needs
-
 mul-at : tie.Need-mul-at Inv-loop μ-loop
 mul-at c = search (step-fits, counting-room)
 
@@ -38,12 +31,6 @@ add-at c = search (behind-fits, counting-room)
 
 sub-more : tie.Need-sub-more Inv-loop μ-loop
 sub-more c = search step-most
-
-add-found : tie.Need-add-found Inv-loop μ-loop
-add-found c = search needs
-
-loop-less : tie.Need-loop-less Inv-loop μ-loop
-loop-less c = search needs
 
 loop-again : tie.Need-loop-again Inv-loop μ-loop
 loop-again c = search counting-next
@@ -61,11 +48,11 @@ count-shown-spec =
     next-shown-requires
     returns
     add-step
-    wide-requires
+    (λ c κs. search needs)
     mul-at
     add-at
     sub-more
-    add-found
-    loop-less
+    (λ c. search needs)
+    (λ c. search needs)
     loop-again
     returns-2)

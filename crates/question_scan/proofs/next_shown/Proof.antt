@@ -4,9 +4,6 @@ use native.Mathlib.Omega.{arith}
 use borrow.Author.Needs.{needs}
 use Rattle.question_scan.proofs.next_shown.Statement.{statement}
 use Rattle.question_scan.proofs.next_shown.Tie as tie
-use Rattle.question_scan.proofs.next_shown.Reads as reads
-use Rattle.question_scan.proofs.next_shown.Lts as lts
-use Rattle.question_scan.proofs.shows_at.Reads as shows-at-reads
 
 abbrev Inv-loop : tie.InvT-loop
 Inv-loop rows width at object place₀ ahead₀ passed₀ place ahead passed = Passing rows width at ahead₀ (beforeShown object) place ahead passed
@@ -26,15 +23,6 @@ returns c = search passing-found
 add-place : tie.Need-add-place Inv-loop μ-loop
 add-place c = search (next-fits, arith)
 
-sub-ahead : tie.Need-sub-ahead Inv-loop μ-loop
-sub-ahead c = search needs
-
-add-passed : tie.Need-add-passed Inv-loop μ-loop
-add-passed c = search needs
-
-loop-less : tie.Need-loop-less Inv-loop μ-loop
-loop-less c = search needs
-
 loop-again : tie.Need-loop-again Inv-loop μ-loop
 loop-again c = search passing-next
 
@@ -51,8 +39,8 @@ next-shown-spec =
     shows-at-requires
     returns
     add-place
-    sub-ahead
-    add-passed
-    loop-less
+    (λ c. search needs)
+    (λ c. search needs)
+    (λ c. search needs)
     loop-again
     returns-2)

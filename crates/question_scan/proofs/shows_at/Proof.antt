@@ -3,27 +3,9 @@ use native.Mathlib.Omega.{arith}
 use borrow.Author.Needs.{needs}
 use Rattle.question_scan.proofs.shows_at.Statement.{statement}
 use Rattle.question_scan.proofs.shows_at.Tie as tie
-use Rattle.question_scan.proofs.shows_at.Reads as reads
-use Rattle.question_scan.proofs.shows_at.Lts as lts
-use Rattle.question_scan.proofs.differ.Reads as differ-reads
-
-mul-if1 : tie.Need-mul-if1
-mul-if1 c = search needs
-
-shared-slice-read-if1 : tie.Need-shared-slice-read-if1
-shared-slice-read-if1 c = search needs
 
 returns : tie.Need-returns
 returns c = search other-object
-
-add-if2 : tie.Need-add-if2
-add-if2 c = search needs
-
-mul-if2 : tie.Need-mul-if2
-mul-if2 c = search needs
-
-shared-slice-read-if2 : tie.Need-shared-slice-read-if2
-shared-slice-read-if2 c = search needs
 
 returns-2 : tie.Need-returns-2
 returns-2 c = search no-add
@@ -44,12 +26,12 @@ pub shows-at-spec : {M : Type 1} → statement M
 shows-at-spec =
     tie.close
     (tie.spec
-    mul-if1
-    shared-slice-read-if1
+    (λ c. search needs)
+    (λ c. search needs)
     returns
-    add-if2
-    mul-if2
-    shared-slice-read-if2
+    (λ c. search needs)
+    (λ c. search needs)
+    (λ c. search needs)
     returns-2
     returns-3
     add-differ

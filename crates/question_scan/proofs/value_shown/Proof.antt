@@ -3,9 +3,6 @@ use native.Mathlib.Omega.{arith}
 use borrow.Author.Needs.{needs}
 use Rattle.question_scan.proofs.value_shown.Statement.{statement}
 use Rattle.question_scan.proofs.value_shown.Tie as tie
-use Rattle.question_scan.proofs.value_shown.Reads as reads
-use Rattle.question_scan.proofs.value_shown.Lts as lts
-use Rattle.question_scan.proofs.shows_value_at.Reads as shows-value-at-reads
 
 abbrev Inv-loop : tie.InvT-loop
 Inv-loop rows width object value at₀ more₀ at more = Seeking rows width more₀ object value at more
@@ -25,12 +22,6 @@ returns c = search value-found
 add-at : tie.Need-add-at Inv-loop μ-loop
 add-at c = search (seek-fits, arith)
 
-sub-more : tie.Need-sub-more Inv-loop μ-loop
-sub-more c = search needs
-
-loop-less : tie.Need-loop-less Inv-loop μ-loop
-loop-less c = search needs
-
 loop-again : tie.Need-loop-again Inv-loop μ-loop
 loop-again c = search seeking-next
 
@@ -47,7 +38,7 @@ value-shown-spec =
     shows-value-at-requires
     returns
     add-at
-    sub-more
-    loop-less
+    (λ c. search needs)
+    (λ c. search needs)
     loop-again
     returns-2)

@@ -7,9 +7,6 @@ use Rattle.replay.proofs.begin.Tie as tie
 returns : tie.Need-returns
 returns c = search begins-short
 
-shared-slice-read-if2 : tie.Need-shared-slice-read-if2
-shared-slice-read-if2 c = search needs
-
 returns-2 : tie.Need-returns-2
 returns-2 c = search begins-form
 
@@ -17,4 +14,4 @@ returns-3 : tie.Need-returns-3
 returns-3 c = search begins-session
 
 pub begin-spec : {M : Type 1} → statement M
-begin-spec = tie.close (tie.spec returns shared-slice-read-if2 returns-2 returns-3)
+begin-spec = tie.close (tie.spec returns (λ c. search needs) returns-2 returns-3)

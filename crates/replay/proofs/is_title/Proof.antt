@@ -7,18 +7,12 @@ use Rattle.replay.proofs.is_title.Tie as tie
 returns : tie.Need-returns
 returns c = search short-no-title
 
-shared-slice-read-if2 : tie.Need-shared-slice-read-if2
-shared-slice-read-if2 c = search needs
-
 returns-2 : tie.Need-returns-2
 returns-2 c = search other-no-title
-
-shared-slice-read-result : tie.Need-shared-slice-read-result
-shared-slice-read-result c = search needs
 
 returns-3 : tie.Need-returns-3
 returns-3 c = search by-second
 
 pub is-title-spec : {M : Type 1} → statement M
 is-title-spec =
-    tie.close (tie.spec returns shared-slice-read-if2 returns-2 shared-slice-read-result returns-3)
+    tie.close (tie.spec returns (λ c. search needs) returns-2 (λ c. search needs) returns-3)

@@ -1,10 +1,6 @@
 use Rattle.settling_step.proofs.Testing.{add-preceded, add-alone, add-with-remove, add-by-unsettled, add-by-add, add-followed}
-use native.Mathlib.Omega.{arith}
-use borrow.Author.Needs.{needs}
 use Rattle.settling_step.proofs.add_step.Statement.{statement}
 use Rattle.settling_step.proofs.add_step.Tie as tie
-use Rattle.settling_step.proofs.add_step.Reads as reads
-use Rattle.settling_step.proofs.add_step.Lts as lts
 
 returns : tie.Need-returns
 returns c = search add-preceded

@@ -1,10 +1,6 @@
 use Rattle.settling_step.proofs.Testing.{remove-followed, remove-settles, remove-after-remove, remove-alone}
-use native.Mathlib.Omega.{arith}
-use borrow.Author.Needs.{needs}
 use Rattle.settling_step.proofs.remove_step.Statement.{statement}
 use Rattle.settling_step.proofs.remove_step.Tie as tie
-use Rattle.settling_step.proofs.remove_step.Reads as reads
-use Rattle.settling_step.proofs.remove_step.Lts as lts
 
 returns : tie.Need-returns
 returns c = search remove-followed

@@ -8,23 +8,8 @@ use Rattle.station.proofs.end.Tie as tie
 returns : tie.Need-returns
 returns c = (search nothing-left, search needs)
 
-sub-reply : tie.Need-sub-reply
-sub-reply c = search needs
-
-part-reply-start : tie.Need-part-reply-start
-part-reply-start c = search needs
-
 part-reply-end : tie.Need-part-reply-end
 part-reply-end c = search going-within
-
-reply-requires : tie.Need-reply-requires
-reply-requires c κs = search needs
-
-same-length : tie.Need-same-length
-same-length c = search needs
-
-same-length-2 : tie.Need-same-length-2
-same-length-2 c = search needs
 
 returns-2 : tie.Need-returns-2
 returns-2 c = (search piece-left, search needs)
@@ -34,10 +19,10 @@ end-spec =
     tie.close
     (tie.spec
     returns
-    sub-reply
-    part-reply-start
+    (λ c. search needs)
+    (λ c. search needs)
     part-reply-end
-    reply-requires
-    same-length
-    same-length-2
+    (λ c κs. search needs)
+    (λ c. search needs)
+    (λ c. search needs)
     returns-2)

@@ -1,10 +1,7 @@
 use Rattle.table_drop.proofs.Testing.{concerns-register, concerns-clear, concerns-other, concerns-low}
 use native.Mathlib.Omega.{arith}
-use borrow.Author.Needs.{needs}
 use Rattle.table_drop.proofs.concerns.Statement.{statement}
 use Rattle.table_drop.proofs.concerns.Tie as tie
-use Rattle.table_drop.proofs.concerns.Reads as reads
-use Rattle.table_drop.proofs.concerns.Lts as lts
 
 returns : tie.Need-returns
 returns c = search concerns-register

@@ -1,10 +1,6 @@
 use Rattle.table_kinds.proofs.KindLaws.{either-first, either-second}
-use native.Mathlib.Omega.{arith}
-use borrow.Author.Needs.{needs}
 use Rattle.table_drop.proofs.is_kept.Statement.{statement}
 use Rattle.table_drop.proofs.is_kept.Tie as tie
-use Rattle.table_drop.proofs.is_kept.Reads as reads
-use Rattle.table_drop.proofs.is_kept.Lts as lts
 
 returns : tie.Need-returns
 returns c = search either-first

@@ -3,9 +3,6 @@ use native.Mathlib.Omega.{arith}
 use borrow.Author.Needs.{needs}
 use Rattle.table_insert.proofs.find_place.Statement.{statement}
 use Rattle.table_insert.proofs.find_place.Tie as tie
-use Rattle.table_insert.proofs.find_place.Reads as reads
-use Rattle.table_insert.proofs.find_place.Lts as lts
-use Rattle.table_insert.proofs.lower.Reads as lower-reads
 
 abbrev Inv-loop : tie.InvT-loop
 Inv-loop rows width key at₀ more₀ at more = Finding rows key width more₀ at more
@@ -15,18 +12,6 @@ abbrev μ-loop : tie.MeasureT-loop
 
 loop-holds : tie.Need-loop-holds Inv-loop μ-loop
 loop-holds c = search finding-start
-
-add-end : tie.Need-add-end Inv-loop μ-loop
-add-end c = search needs
-
-mul-lower : tie.Need-mul-lower Inv-loop μ-loop
-mul-lower c = search needs
-
-sub-lower : tie.Need-sub-lower Inv-loop μ-loop
-sub-lower c = search needs
-
-part-lower-start : tie.Need-part-lower-start Inv-loop μ-loop
-part-lower-start c = search needs
 
 part-lower-end : tie.Need-part-lower-end Inv-loop μ-loop
 part-lower-end c = search finding-key
@@ -39,12 +24,6 @@ returns c = search finding-found
 
 add-at : tie.Need-add-at Inv-loop μ-loop
 add-at c = search (next-fits, arith)
-
-sub-more : tie.Need-sub-more Inv-loop μ-loop
-sub-more c = search needs
-
-loop-less : tie.Need-loop-less Inv-loop μ-loop
-loop-less c = search needs
 
 loop-again : tie.Need-loop-again Inv-loop μ-loop
 loop-again c = search finding-past
@@ -59,15 +38,15 @@ find-place-spec =
     Inv-loop
     μ-loop
     loop-holds
-    add-end
-    mul-lower
-    sub-lower
-    part-lower-start
+    (λ c. search needs)
+    (λ c. search needs)
+    (λ c. search needs)
+    (λ c. search needs)
     part-lower-end
     lower-requires
     returns
     add-at
-    sub-more
-    loop-less
+    (λ c. search needs)
+    (λ c. search needs)
     loop-again
     returns-2)

@@ -3,21 +3,9 @@ use native.Mathlib.Omega.{arith}
 use borrow.Author.Needs.{needs}
 use Rattle.table_insert.proofs.insert_row.Statement.{statement}
 use Rattle.table_insert.proofs.insert_row.Tie as tie
-use Rattle.table_insert.proofs.insert_row.Reads as reads
-use Rattle.table_insert.proofs.insert_row.Lts as lts
-use Rattle.words_moves.proofs.move_up.Reads as move-up-reads
-use Rattle.words_moves.proofs.put.Reads as put-reads
-use Rattle.table_insert.proofs.find_place.Reads as find-place-reads
-use Rattle.words_tags.proofs.wide.Reads as wide-reads
-
-wide-requires : tie.Need-wide-requires
-wide-requires c κs = search needs
 
 mul-end : tie.Need-mul-end
 mul-end c = search rows-fit
-
-find-place-requires : tie.Need-find-place-requires
-find-place-requires c κs = search needs
 
 move-up-requires : tie.Need-move-up-requires
 move-up-requires c κs = (search (place-below, arith), search row-room)
@@ -31,9 +19,6 @@ add-put c = search (vector-fits, arith)
 put-requires-2 : tie.Need-put-requires-2
 put-requires-2 c κs = search vector-room
 
-same-length : tie.Need-same-length
-same-length c = search needs
-
 returns : tie.Need-returns
 returns c = search insertion
 
@@ -41,12 +26,12 @@ pub insert-row-spec : {M : Type 1} → statement M
 insert-row-spec =
     tie.close
     (tie.spec
-    wide-requires
+    (λ c κs. search needs)
     mul-end
-    find-place-requires
+    (λ c κs. search needs)
     move-up-requires
     put-requires
     add-put
     put-requires-2
-    same-length
+    (λ c. search needs)
     returns)

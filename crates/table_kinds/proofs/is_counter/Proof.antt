@@ -1,10 +1,6 @@
 use Rattle.table_kinds.proofs.KindLaws.{counter-first, counter-second}
-use native.Mathlib.Omega.{arith}
-use borrow.Author.Needs.{needs}
 use Rattle.table_kinds.proofs.is_counter.Statement.{statement}
 use Rattle.table_kinds.proofs.is_counter.Tie as tie
-use Rattle.table_kinds.proofs.is_counter.Reads as reads
-use Rattle.table_kinds.proofs.is_counter.Lts as lts
 
 returns : tie.Need-returns
 returns c = search counter-first

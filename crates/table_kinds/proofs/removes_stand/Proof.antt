@@ -1,10 +1,6 @@
 use Rattle.table_kinds.proofs.KindLaws.{stands-flag, stands-set}
-use native.Mathlib.Omega.{arith}
-use borrow.Author.Needs.{needs}
 use Rattle.table_kinds.proofs.removes_stand.Statement.{statement}
 use Rattle.table_kinds.proofs.removes_stand.Tie as tie
-use Rattle.table_kinds.proofs.removes_stand.Reads as reads
-use Rattle.table_kinds.proofs.removes_stand.Lts as lts
 
 returns : tie.Need-returns
 returns c = search stands-flag

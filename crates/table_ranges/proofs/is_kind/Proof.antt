@@ -3,8 +3,5 @@ use borrow.Author.Needs.{needs}
 use Rattle.table_ranges.proofs.is_kind.Statement.{statement}
 use Rattle.table_ranges.proofs.is_kind.Tie as tie
 
-returns : tie.Need-returns
-returns c = search needs
-
 pub is-kind-spec : {M : Type 1} → statement M
-is-kind-spec = tie.close (tie.spec (λ c κs. search needs) returns)
+is-kind-spec = tie.close (tie.spec (λ c κs. search needs) (λ c. search needs))

@@ -3,9 +3,6 @@ use borrow.Author.Needs.{needs}
 use Rattle.table_rules_rows.proofs.has_same_value.Statement.{statement}
 use Rattle.table_rules_rows.proofs.has_same_value.Tie as tie
 
-returns : tie.Need-returns
-returns c = search needs
-
 pub has-same-value-spec : {M : Type 1} → statement M
 has-same-value-spec =
     tie.close
@@ -17,4 +14,4 @@ has-same-value-spec =
     (λ c. search needs)
     (λ c. search needs)
     (λ c κs. search needs)
-    returns)
+    (λ c. search needs))

@@ -7,8 +7,6 @@ use native.Mathlib.Omega.{arith}
 use borrow.Author.Needs.{needs}
 use Rattle.words_moves.proofs.clear.Statement.{statement}
 use Rattle.words_moves.proofs.clear.Tie as tie
-use Rattle.words_moves.proofs.clear.Reads as reads
-use Rattle.words_moves.proofs.clear.Lts as lts
 
 abbrev Inv-loop : tie.InvT-loop
 Inv-loop words₀ start end i₀ words i = (start ≤ i) × (i ≤ end) × (words ≡ take start words₀ ++ replicate (i - start) 0 ++ drop i words₀) × (length words ≡ length words₀)
@@ -19,23 +17,8 @@ abbrev μ-loop : tie.MeasureT-loop
 loop-holds : tie.Need-loop-holds Inv-loop μ-loop
 loop-holds c = (search needs, search needs, search clear-start, refl)
 
-mul-words : tie.Need-mul-words Inv-loop μ-loop
-mul-words c = search needs
-
-slice-write-words : tie.Need-slice-write-words Inv-loop μ-loop
-slice-write-words c = search needs
-
-add-i : tie.Need-add-i Inv-loop μ-loop
-add-i c = search needs
-
-loop-less : tie.Need-loop-less Inv-loop μ-loop
-loop-less c = search needs
-
 loop-again : tie.Need-loop-again Inv-loop μ-loop
 loop-again c = (omega arith, omega arith, search clear-turn, search needs)
-
-same-length : tie.Need-same-length Inv-loop μ-loop
-same-length c = search needs
 
 returns : tie.Need-returns Inv-loop μ-loop
 returns c = search clear-done
@@ -47,10 +30,10 @@ clear-spec =
     Inv-loop
     μ-loop
     loop-holds
-    mul-words
-    slice-write-words
-    add-i
-    loop-less
+    (λ c. search needs)
+    (λ c. search needs)
+    (λ c. search needs)
+    (λ c. search needs)
     loop-again
-    same-length
+    (λ c. search needs)
     returns)

@@ -3,11 +3,5 @@ use borrow.Author.Needs.{needs}
 use Rattle.words_tags.proofs.lesser.Statement.{statement}
 use Rattle.words_tags.proofs.lesser.Tie as tie
 
-returns : tie.Need-returns
-returns c = search needs
-
-returns-2 : tie.Need-returns-2
-returns-2 c = search needs
-
 pub lesser-spec : {M : Type 1} → statement M
-lesser-spec = tie.close (tie.spec returns returns-2)
+lesser-spec = tie.close (tie.spec (λ c. search needs) (λ c. search needs))
