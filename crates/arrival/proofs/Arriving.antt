@@ -33,6 +33,7 @@ use Rattle.table_change.specs.Changes.{Opened, rowsLeft, totalsChanged, entryBe
 use Rattle.table_change.proofs.Changing.{opened}
 use Rattle.arrival.specs.Arrives.{Arrives, hasRoom, totalsWith}
 use Rattle.arrival.proofs.RowsAfter.{after-put, after-none, count-put, count-none}
+use Rattle.words_layout.specs.Words.{wordLimit}
 
 -- a table with one part changed keeps its shape
 pub well-rows : (t : Table) (rows : List Row) → Well t → Each (Shaped (t .header .size)) rows → Well (withRows t rows)
@@ -140,7 +141,7 @@ module _ (s : List ℕ) (n count : ℕ) (a : Arrival) (O : Opened s n count) (r 
   module _ (t : r ≡ true) (one-word : a .high ≡ 0) where
     totals-same : totalsChanged (a .object) (a .low) (eqb (a .code) 1) (tableOf s) ≡ totalsWith a (tableOf s)
     unfolding totalsWith totalsAfter totalsChanged amountOf change
-    totals-same = let q : a .high * 4294967296 + a .low ≡ a .low = omega arith in rw (sym e ∙ t, q) refl
+    totals-same = let q : a .high * wordLimit + a .low ≡ a .low = omega arith in rw (sym e ∙ t, q) refl
 
     pub total-changed : (s₁ : List ℕ) (o : ℕ) → o ≡ a .object → s₁ ≡ rewritten s (withTotals (tableOf s) (totalsChanged o (a .low) (eqb (a .code) 1) (tableOf s))) → s₁ ≡ rewritten s (withTotals (tableOf s) (totalsWith a (tableOf s)))
     total-changed s₁ o q f = f ∙ rw q (ap (λ (totals : List ℤ). rewritten s (withTotals (tableOf s) totals)) totals-same)

@@ -8,9 +8,11 @@ use Rattle.meaning.specs.Order.{Vector}
 use Rattle.words_layout.specs.Layout.{rowOf, rowWords}
 use Rattle.words_layout.proofs.RowWords.{row-written}
 use Rattle.table_drop.specs.declared.Arrival.{Arrival}
+use Rattle.meaning.specs.Table.{greatestSize}
+use Rattle.words_layout.specs.Words.{wordLimit}
 
 -- an unsettled row: the arrival with its tag
-module _ (n : ℕ) (a : Arrival) (v : Vector) (k : ℕ) (long : length v ≡ n) (small : a .low < 4294967296) (number : k ≡ getD v (a .sender .0) 0) where
+module _ (n : ℕ) (a : Arrival) (v : Vector) (k : ℕ) (long : length v ≡ n) (small : a .low < wordLimit) (number : k ≡ getD v (a .sender .0) 0) where
   abbrev tagged : List ℕ
   tagged = a .object ∷ a .high ∷ a .low ∷ a .code ∷ 1 ∷ a .sender .0 ∷ k ∷ []
 
@@ -28,15 +30,15 @@ zero-first zero = refl
 zero-first (suc n) = refl
 
 -- a settled row: the arrival without a tag
-module _ (n : ℕ) (a : Arrival) (few : n ≤ 16) (small : a .low < 4294967296) where
+module _ (n : ℕ) (a : Arrival) (few : n ≤ greatestSize) (small : a .low < wordLimit) where
   abbrev bare : List ℕ
   bare = a .object ∷ a .high ∷ a .low ∷ a .code ∷ 0 ∷ 0 ∷ 0 ∷ []
 
   abbrev none : List ℕ
-  none = take (n - 0) (replicate 16 0)
+  none = take (n - 0) (replicate greatestSize 0)
 
   none-is : none ≡ replicate n 0
-  none-is = let q : n - 0 ≡ n = omega arith in rw q (zeros-front 16 n few)
+  none-is = let q : n - 0 ≡ n = omega arith in rw q (zeros-front greatestSize n few)
 
   pub none-long : length none ≡ n
   none-long = ap length none-is ∙ length-replicate n 0

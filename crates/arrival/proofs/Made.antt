@@ -11,6 +11,7 @@ use Rattle.words_layout.specs.Layout.{tableOf, objectsIn}
 use Rattle.words_tags.specs.declared.Station.{Station}
 use Rattle.table_drop.specs.Arriving.{operationOf}
 use Rattle.arrival.specs.Arrives.{arrivalFrom}
+use Rattle.words_layout.specs.Words.{wordLimit}
 
 -- the kind that is looked up is the kind that the table says
 pub arrival-made : (s : List ℕ) (m kind object code value : ℕ) (sender : Station) → m ≡ objectsIn s → kind ≡ getD (take (7 + m - 7) (drop 7 s)) object 0 →
@@ -25,4 +26,4 @@ arrival-made s m kind object code value sender e f =
 pub operation-is : (kind object code value : ℕ) (sender : Station) (v : Vector) →
     let u : Operation = record { object = object; code = code; value = value; sender = sender .0; vector = v } in
     operationOf (arrivalFrom kind object code value sender) v ≡ u
-operation-is kind object code value sender v = let q : 0 * 4294967296 + value ≡ value = omega arith in rw q refl
+operation-is kind object code value sender v = let q : 0 * wordLimit + value ≡ value = omega arith in rw q refl

@@ -13,7 +13,7 @@ use Rattle.meaning.specs.Operations.{isCounter}
 use Rattle.meaning.specs.Rows.{Row}
 use Rattle.meaning.specs.Arrival.{getsRow, sameValue}
 use Rattle.words_layout.specs.Words.{pieces}
-use Rattle.words_layout.specs.Layout.{rowOf, tableOf, capacityIn}
+use Rattle.words_layout.specs.Layout.{rowOf, tableOf, capacityIn, clockAt}
 use Rattle.table_drop.specs.Arriving.{operationOf, isKept, puts, staying}
 use Rattle.table_drop.specs.declared.Arrival.{Arrival}
 use Rattle.table_drop.proofs.Dropping.{Place, place-start, place-next, ahead}
@@ -74,7 +74,7 @@ module _ (a : Arrival) where
 -- whether a row is put, in any kind
 module _ (s : List ℕ) (n count : ℕ) (a : Arrival) (v : Vector) (O : Opened s n count) (ic : Bool) (ec : ic ≡ isCounter (a .kind)) where
   abbrev base : ℕ
-  base = 103 + n + n * n
+  base = clockAt + n + n * n
 
   abbrev part : List ℕ
   part = take (length s - base) (drop base s)
@@ -102,7 +102,7 @@ module _ (s : List ℕ) (n count : ℕ) (a : Arrival) (v : Vector) (O : Opened s
     puts-tagged t r f = rw (sym ec ∙ nc, sym ek ∙ t) f
 
 -- room for the rows that are left, and for the one that is put
-module _ (s : List ℕ) (n count : ℕ) (a : Arrival) (v : Vector) (O : Opened s n count) (left : ℕ) (e : left ≡ length (staying a v (7 + n) count (take (length s - (103 + n + n * n)) (drop (103 + n + n * n) s)))) (r : Bool) (f : r ≡ puts (a .kind) (operationOf a v) (tableOf s .rows)) where
+module _ (s : List ℕ) (n count : ℕ) (a : Arrival) (v : Vector) (O : Opened s n count) (left : ℕ) (e : left ≡ length (staying a v (7 + n) count (take (length s - (clockAt + n + n * n)) (drop (clockAt + n + n * n) s)))) (r : Bool) (f : r ≡ puts (a .kind) (operationOf a v) (tableOf s .rows)) where
   left-is : left ≡ length (rowsLeft a v (tableOf s))
   left-is = left-count s n count a v O left e
 

@@ -23,22 +23,13 @@ use words_layout::CLOCK_AT;
 use words_layout::KEY;
 use words_layout::KINDS_AT;
 use words_layout::OBJECTS_AT;
+use words_layout::SETTLED;
+use words_layout::UNSETTLED;
 use words_tags::RowCount;
 use words_tags::Station;
 
-// The refusal of an operation for which there is no room.
-pub const FULL: u32 = 8;
-
-// The word of a row that says whether it is settled.
-const SETTLED: u32 = 0;
-
-const UNSETTLED: u32 = 1;
-
 // What stands for the sender and the number of a settled row, which has no tag.
 const NO_TAG: u32 = 0;
-
-// A group has at most so many stations.
-pub const MOST_STATIONS: usize = 16;
 
 // Values of 32 bits have no high word.
 const NO_HIGH: u32 = 0;
@@ -149,7 +140,7 @@ fn put_settled(s: &mut [u32], size: usize, count: RowCount, a: Arrival)
     ensures { λ _. ⌜ now (s .exit) ≡ rewritten (now (s .entry)) (withRows (tableOf (now (s .entry))) (insertRow (settledRow (operationOf a [])) (tableOf (now (s .entry)) .rows))) ⌝ }
 {
     let key = [a.object, a.high, a.low, a.code, SETTLED, NO_TAG, NO_TAG];
-    let none = [0u32; MOST_STATIONS];
+    let none = [0u32; meaning::MOST_STATIONS];
     table_change::put_row(s, size, count, &key, &none[0..size]);
 }
 

@@ -19,7 +19,7 @@ use Rattle.meaning.proofs.Acceptance.{FrameAccepted, frame-accepted, next-numbe
 use Rattle.meaning.proofs.TableRules.{kept-by-frame}
 use Rattle.meaning.proofs.TableFacts.{facts, every-place}
 use Rattle.words_layout.specs.Words.{pieces}
-use Rattle.words_layout.specs.Layout.{holdsTable, tableOf, rewritten, sizeIn, ownIn, capacityIn, objectsIn, countIn, rowsIn, rowsAt, rowOf, withLast}
+use Rattle.words_layout.specs.Layout.{holdsTable, tableOf, rewritten, sizeIn, ownIn, capacityIn, objectsIn, countIn, rowsIn, rowsAt, rowOf, withLast, clockAt}
 use Rattle.words_layout.proofs.Pieces.{length-pieces}
 use Rattle.words_layout.proofs.Reading.{Well}
 use Rattle.words_layout.proofs.Changing.{Sized, well, sized, wide-set, and-then}
@@ -39,13 +39,13 @@ use Rattle.arrival_frame.specs.Receiving.{outcomeIn, receivedBy}
 
 -- what asks the header, D and L alone, from the words that are lent
 pub early-is : (s : List ℕ) (n m : ℕ) (f : Sent) (v : Vector) (r : ℕ) → n ≡ sizeIn s → m ≡ objectsIn s →
-    r ≡ firstOf (frameRefusals (record { size = sizeIn s; own = ownIn s; capacity = capacityIn s; kinds = take (7 + m - 7) (drop 7 s) }) (take (103 + n - 103) (drop 103 s)) (pieces (sizeIn s) (sizeIn s) (take (length s - (103 + n)) (drop (103 + n) s))) (frameFrom f v)) →
+    r ≡ firstOf (frameRefusals (record { size = sizeIn s; own = ownIn s; capacity = capacityIn s; kinds = take (7 + m - 7) (drop 7 s) }) (take (clockAt + n - clockAt) (drop clockAt s)) (pieces (sizeIn s) (sizeIn s) (take (length s - (clockAt + n)) (drop (clockAt + n) s))) (frameFrom f v)) →
     r ≡ firstOf (frameRefusals (tableOf s .header) (tableOf s .clock) (tableOf s .last) (frameFrom f v))
 unfolding tableOf
 early-is s n m f v r en em e =
     let p : 7 + m - 7 ≡ objectsIn s = omega arith in
-    let q : 103 + n - 103 ≡ sizeIn s = omega arith in
-    e ∙ rw (p, q, all-of s (103 + n), en) refl
+    let q : clockAt + n - clockAt ≡ sizeIn s = omega arith in
+    e ∙ rw (p, q, all-of s (clockAt + n), en) refl
 
 -- what arrives of a frame
 abbrev pub arrivalIn : Table → Sent → Arrival

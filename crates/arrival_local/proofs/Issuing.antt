@@ -12,14 +12,14 @@ use Rattle.meaning.specs.Tests.{every}
 use Rattle.meaning.specs.Order.{Vector, entryLimit, raised}
 use Rattle.meaning.specs.Operations.{Operation, allowed}
 use Rattle.meaning.specs.Arrival.{rowsAfter}
-use Rattle.meaning.specs.Table.{Header, Table, kindIn}
+use Rattle.meaning.specs.Table.{Header, Table, kindIn, greatestSize}
 use Rattle.meaning.specs.Refusals.{firstOf, Local, declared, issuedBy, issueRefusals, roomFor, localRefusals, refusalOfLocal}
 use Rattle.meaning.specs.Calls.{afterArrival}
 use Rattle.meaning.proofs.Acceptance.{LocalAccepted, local-accepted}
 use Rattle.meaning.proofs.TableRules.{kept-by-local}
 use Rattle.meaning.proofs.TableFacts.{facts, every-place}
 use Rattle.words_layout.specs.Words.{padded}
-use Rattle.words_layout.specs.Layout.{holdsTable, tableOf, rewritten, sizeIn, ownIn, capacityIn, objectsIn, countIn}
+use Rattle.words_layout.specs.Layout.{holdsTable, tableOf, rewritten, sizeIn, ownIn, capacityIn, objectsIn, countIn, clockAt}
 use Rattle.words_layout.proofs.Whole.{zeros-drop, fit}
 use Rattle.words_tags.specs.declared.Station.{Station}
 use Rattle.table_drop.specs.Arriving.{operationOf}
@@ -35,12 +35,12 @@ use Rattle.refusal_order.specs.Fields.{localFrom}
 
 -- what asks the header and D alone, from the words that are lent
 pub early-is : (s : List ℕ) (n m object code value r : ℕ) → n ≡ sizeIn s → m ≡ objectsIn s →
-    r ≡ firstOf (issueRefusals (record { size = sizeIn s; own = ownIn s; capacity = capacityIn s; kinds = take (7 + m - 7) (drop 7 s) }) (take (103 + n - 103) (drop 103 s)) (localFrom object code value)) →
+    r ≡ firstOf (issueRefusals (record { size = sizeIn s; own = ownIn s; capacity = capacityIn s; kinds = take (7 + m - 7) (drop 7 s) }) (take (clockAt + n - clockAt) (drop clockAt s)) (localFrom object code value)) →
     r ≡ firstOf (issueRefusals (tableOf s .header) (tableOf s .clock) (localFrom object code value))
 unfolding tableOf
 early-is s n m object code value r en em e =
     let p : 7 + m - 7 ≡ objectsIn s = omega arith in
-    let q : 103 + n - 103 ≡ sizeIn s = omega arith in
+    let q : clockAt + n - clockAt ≡ sizeIn s = omega arith in
     e ∙ rw (p, q) refl
 
 numbered-chain : (header : Header) (clock : Vector) (local : Local) → every numbered (issueRefusals header clock local) ≡ true
@@ -95,37 +95,37 @@ module _ (s : List ℕ) (C : Checked s) (n : ℕ) (en : n ≡ sizeIn s) where
   clock = tableOf s .clock
 
   abbrev part : List ℕ
-  part = take (103 + n - 103) (drop 103 s)
+  part = take (clockAt + n - clockAt) (drop clockAt s)
 
   part-is : part ≡ clock
   unfolding tableOf
-  part-is = let q : 103 + n - 103 ≡ sizeIn s = omega arith in rw q refl
+  part-is = let q : clockAt + n - clockAt ≡ sizeIn s = omega arith in rw q refl
 
   clock-long : length clock ≡ sizeIn s
   unfolding tableOf
   clock-long = fit s (C .laid) .clock-long
 
-  pub part-fits : 0 + length part ≤ 16
+  pub part-fits : 0 + length part ≤ greatestSize
   part-fits = let l = ap length part-is ∙ clock-long in let f = C .few in omega arith
 
-  module _ (next : List ℕ) (e : next ≡ paste (replicate 16 0) 0 part (length part)) where
-    laid-out : next ≡ clock ++ replicate (16 - length clock) 0
+  module _ (next : List ℕ) (e : next ≡ paste (replicate greatestSize 0) 0 part (length part)) where
+    laid-out : next ≡ clock ++ replicate (greatestSize - length clock) 0
     laid-out =
         let f = C .few in
-        let few : length clock ≤ 16 = rw clock-long f in
+        let few : length clock ≤ greatestSize = rw clock-long f in
         let z : 0 + length clock ≡ length clock = omega arith in
-        e ∙ rw (part-is, take-all (length clock) clock (omega arith), z) (ap (λ (l : List ℕ). clock ++ l) (ap (drop (length clock)) (sym (append-nil (replicate 16 0))) ∙ zeros-drop 16 (length clock) [] few ∙ append-nil (replicate (16 - length clock) 0)))
+        e ∙ rw (part-is, take-all (length clock) clock (omega arith), z) (ap (λ (l : List ℕ). clock ++ l) (ap (drop (length clock)) (sym (append-nil (replicate greatestSize 0))) ∙ zeros-drop greatestSize (length clock) [] few ∙ append-nil (replicate (greatestSize - length clock) 0)))
 
-    pub next-below : entryBelowLimit (tableOf s) (ownIn s) → getD next (ownIn s) 0 + 1 < 4294967296
-    next-below h = rw (laid-out, get-front clock (replicate (16 - length clock) 0) (ownIn s) (let o = C .own in let l = clock-long in omega arith)) h
+    pub next-below : entryBelowLimit (tableOf s) (ownIn s) → getD next (ownIn s) 0 + 1 < entryLimit
+    next-below h = rw (laid-out, get-front clock (replicate (greatestSize - length clock) 0) (ownIn s) (let o = C .own in let l = clock-long in omega arith)) h
 
-    pub next-made : (x : List ℕ) → x ≡ raised next (ownIn s) → x ≡ padded 16 (raised clock (ownIn s))
+    pub next-made : (x : List ℕ) → x ≡ raised next (ownIn s) → x ≡ padded greatestSize (raised clock (ownIn s))
     next-made x g =
         let l = length-set clock (ownIn s) (suc (getD clock (ownIn s) 0)) in
-        g ∙ rw (laid-out, raised-front clock (replicate (16 - length clock) 0) (ownIn s) (let o = C .own in let l = clock-long in omega arith)) (rw l refl)
+        g ∙ rw (laid-out, raised-front clock (replicate (greatestSize - length clock) 0) (ownIn s) (let o = C .own in let l = clock-long in omega arith)) (rw l refl)
 
 -- the part of the array that is the vector
-module _ (s : List ℕ) (C : Checked s) (n : ℕ) (en : n ≡ sizeIn s) (next : List ℕ) (e : next ≡ padded 16 (raised (tableOf s .clock) (ownIn s))) where
+module _ (s : List ℕ) (C : Checked s) (n : ℕ) (en : n ≡ sizeIn s) (next : List ℕ) (e : next ≡ padded greatestSize (raised (tableOf s .clock) (ownIn s))) where
   pub raised-long : length (raised (tableOf s .clock) (ownIn s)) ≡ n
   raised-long = length-set (tableOf s .clock) (ownIn s) (suc (getD (tableOf s .clock) (ownIn s) 0)) ∙ clock-long s C n en ∙ sym en
 

@@ -10,10 +10,9 @@ ghost use Rattle.words_layout.specs.Layout.{ownIn, rewritten, sizeIn, tableOf};
 ghost use Rattle.table_change.specs.Changes.{entryBelowLimit};
 ghost use Rattle.table_rules.specs.Checked.{Checked};
 ghost use Rattle.refusal_order.specs.Fields.{localFrom};
-use arrival::FULL;
-use arrival::MOST_STATIONS;
+use refusal_number::FULL;
+use refusal_number::NONE;
 use refusal_order::Header;
-use refusal_order::NONE;
 use words_layout::CAPACITY_AT;
 use words_layout::CLOCK_AT;
 use words_layout::COUNT_AT;
@@ -47,13 +46,13 @@ fn early_number(s: &[u32], size: usize, object: u32, code: u32, value: u32) -> u
 }
 
 // The vector of the next own operation, D with the own entry one higher, and zeros behind it.
-pub fn next_vector(s: &[u32]) -> [u32; MOST_STATIONS]
+pub fn next_vector(s: &[u32]) -> [u32; meaning::MOST_STATIONS]
     requires { ⌜ Checked (now s) × entryBelowLimit (tableOf (now s)) (ownIn (now s)) ⌝ }
     ensures { λ r. ⌜ r ≡ padded greatestSize (raised (tableOf (now (s .entry)) .clock) (ownIn (now (s .entry)))) ⌝ }
 {
     let end = CLOCK_AT + words_tags::wide(s[SIZE_AT]);
     let own = Station(s[OWN_AT]);
-    let mut next = [0u32; MOST_STATIONS];
+    let mut next = [0u32; meaning::MOST_STATIONS];
     words_moves::put(&mut next, 0, &s[CLOCK_AT..end]);
     words_tags::advance(&mut next, own);
     next

@@ -11,7 +11,7 @@ use lib.ListN.{length, getD, take, drop, length-append, length-drop, length-set,
 use lib.Seq.{drop-drop, drop-at, length-take-le, take-all}
 use borrow.Author.Tests.{le-leb}
 use Rattle.meaning.specs.Operations as meant
-use Rattle.meaning.specs.Table.{Table}
+use Rattle.meaning.specs.Table.{Table, greatestSize}
 use Rattle.meaning.specs.Refusals.{Local, refusalOfLocal, issuedBy}
 use Rattle.meaning.specs.Calls as meaning
 use Rattle.meaning.specs.Calls.{outcome, afterArrival}
@@ -28,16 +28,16 @@ use Rattle.line_put.specs.declared.Written.{Written}
 use Rattle.line_put.specs.declared.Written.the-variants as written-as
 use Rattle.line_put.proofs.Laying.{length-written-each}
 use Rattle.line_put.proofs.Whole.{length-hex-line}
-use Rattle.line_read.specs.Types.{refused, operation, headOf}
+use Rattle.line_read.specs.Types.{refused, operation, headOf, longestFrame}
 use Rattle.line_read.specs.Named.{issueRead}
 use Rattle.line_print.specs.Printed.{printed}
 use Rattle.line_decode.specs.Decoding.{bytesOf}
-use Rattle.call_question.specs.AnswerBytes.{refusalBytes}
+use Rattle.call_question.specs.AnswerBytes.{refusalBytes, longestAnswerBytes}
 use Rattle.call_question.proofs.Short.{refusal-long}
 use Rattle.call_checked.specs.declared.Issued.{Issued}
 use Rattle.call_checked.specs.declared.Issued.the-variants as issued
 use Rattle.call_checked.specs.Called.{frameBytes, framedAs, issuedAs, issuedOn, localOf}
-use Rattle.call_answer.specs.Answering.{issueAnswer, issuedBytes, answeredAfter}
+use Rattle.call_answer.specs.Answering.{issueAnswer, issuedBytes, answeredAfter, frameRoom}
 
 take-most : (n : ℕ) (l : List ℕ) → length (take n l) ≤ n
 take-most zero l = omega arith
@@ -45,14 +45,14 @@ take-most (suc n) [] = omega arith
 take-most (suc n) (x ∷ l) = omega (arith, take-most n l)
 
 -- a frame of a table has at most 73 bytes
-frame-few : (u : meant.Operation) → length (u .vector) ≤ 16 → length (hexLine (frameBytes u)) ≤ 147
+frame-few : (u : meant.Operation) → length (u .vector) ≤ greatestSize → length (hexLine (frameBytes u)) ≤ longestFrame
 unfolding frameBytes lineBytes lengthOf
 frame-few u h =
     let head = written (headOf operation) (32 ∷ length (u .vector) ∷ u .sender ∷ u .object ∷ u .code ∷ u .value ∷ []) in
     let first : length head ≡ 9 = length-written (headOf operation) (32 ∷ length (u .vector) ∷ u .sender ∷ u .object ∷ u .code ∷ u .value ∷ []) refl in
     omega (arith, length-hex-line (frameBytes u), length-append head (writtenEach 4 (u .vector)), first, length-written-each 4 (u .vector))
 
-next-few : (words : List ℕ) → Checked words → (local : Local) → length (issuedBy (tableOf words) local .vector) ≤ 16
+next-few : (words : List ℕ) → Checked words → (local : Local) → length (issuedBy (tableOf words) local .vector) ≤ greatestSize
 unfolding issuedBy tableOf
 next-few words K local =
     let clock = take (sizeIn words) (drop clockAt words) in
@@ -62,17 +62,17 @@ next-few words K local =
 abbrev Fit : Issued × (List ℕ × List ℕ) → List ℕ × List ℕ → List ℕ → Type 0
 Fit (issued.Refused number, (x, y)) (bytes, words) room = (bytes ≡ refusalBytes number) × ((x ≡ words) × (y ≡ room))
 Fit (issued.Frame n, (x, y)) (bytes, words) room =
-    (n + 2 ≡ length (hexLine bytes)) × ((n ≤ 147) × ((x ≡ words) × (48 ∷ 48 ∷ y ≡ hexLine bytes ++ drop n room)))
+    (n + 2 ≡ length (hexLine bytes)) × ((n ≤ longestFrame) × ((x ≡ words) × (48 ∷ 48 ∷ y ≡ hexLine bytes ++ drop n room)))
 
-module _ (words room : List ℕ) (long : 147 ≤ length room) where
-  frame-fit : (u : meant.Operation) (t : Table) → length (u .vector) ≤ 16 → Fit (framedAs words t room (lineWritten room (frameBytes u))) (0 ∷ frameBytes u, rewritten words t) room
+module _ (words room : List ℕ) (long : longestFrame ≤ length room) where
+  frame-fit : (u : meant.Operation) (t : Table) → length (u .vector) ≤ greatestSize → Fit (framedAs words t room (lineWritten room (frameBytes u))) (0 ∷ frameBytes u, rewritten words t) room
   unfolding framedAs lineWritten hexLine digitsOf digitOf
   frame-fit u t few =
       let short = frame-few u few in
       rw (le-leb (length (hexLine (frameBytes u))) (length room) (omega (arith, short)))
       (omega arith, (short, (refl, refl)))
 
-  outcome-fit : (number : ℕ) (u : meant.Operation) (t : Table) → length (u .vector) ≤ 16 → Fit (issuedAs words room (outcome number u t)) (issuedBytes words (outcome number u t)) room
+  outcome-fit : (number : ℕ) (u : meant.Operation) (t : Table) → length (u .vector) ≤ greatestSize → Fit (issuedAs words room (outcome number u t)) (issuedBytes words (outcome number u t)) room
   unfolding issuedAs issuedBytes outcome
   outcome-fit number u t few = by (eqb number 0)
     where
@@ -92,7 +92,7 @@ module _ (words room : List ℕ) (long : 147 ≤ length room) where
       by false = (refl, (refl, refl))
 
 -- the answer's length
-pub issue-short : (words : List ℕ) → Checked words → (line : List ℕ) → length (issueAnswer line words .0) ≤ 2051
+pub issue-short : (words : List ℕ) → Checked words → (line : List ℕ) → length (issueAnswer line words .0) ≤ longestAnswerBytes
 unfolding issueAnswer issuedBytes meaning.issue outcome
 issue-short words K line = by (issueRead (bytesOf line) .ok) (eqb (refusalOfLocal (tableOf words) local) 0)
   where
@@ -102,16 +102,16 @@ issue-short words K line = by (issueRead (bytesOf line) .ok) (eqb (refusalOfLoca
     u : meant.Operation
     u = issuedBy (tableOf words) local
 
-    short : (number : ℕ) → length (refusalBytes number) ≤ 2051
+    short : (number : ℕ) → length (refusalBytes number) ≤ longestAnswerBytes
     short number = omega (arith, refusal-long number)
 
-    by : (b c : Bool) → length (pick b (issuedBytes words (cond c (meaning.Outcome.accepted u (afterArrival (tableOf words) u (tableOf words .last))) (meaning.Outcome.refused (refusalOfLocal (tableOf words) local)))) (refusalBytes 1, words) .0) ≤ 2051
+    by : (b c : Bool) → length (pick b (issuedBytes words (cond c (meaning.Outcome.accepted u (afterArrival (tableOf words) u (tableOf words .last))) (meaning.Outcome.refused (refusalOfLocal (tableOf words) local)))) (refusalBytes 1, words) .0) ≤ longestAnswerBytes
     by true true = omega (arith, frame-few u (next-few words K local), length-hex-line (frameBytes u))
     by true false = short (refusalOfLocal (tableOf words) local)
     by false c = short 1
 
 -- from what the call knows
-module _ (words line out : List ℕ) (K : Checked words) (room : 149 ≤ length out) (r : Issued) (x y : List ℕ) (e : (r, (x, y)) ≡ issuedOn line words (take (length out - 2) (drop 2 out))) where
+module _ (words line out : List ℕ) (K : Checked words) (room : frameRoom ≤ length out) (r : Issued) (x y : List ℕ) (e : (r, (x, y)) ≡ issuedOn line words (take (length out - 2) (drop 2 out))) where
   abbrev lent : List ℕ
   lent = take (length out - 2) (drop 2 out)
 

@@ -23,6 +23,7 @@ use Rattle.call_checked.specs.declared.Received.the-variants as received
 use Rattle.call_checked.specs.declared.Settled.{Settled}
 use Rattle.call_checked.specs.declared.Settled.the-variants as settled
 use Rattle.call_answer.specs.Answering.{doneBytes, openedBytes, questionAnswer, receivedBytes, secondOpening, settledBytes}
+use Rattle.meaning.specs.Table.{mostRows}
 
 module _ (out : List ℕ) (w : Written) (y : List ℕ) where
   refused-said : (number : ℕ) → (w, y) ≡ printed out refused (number ∷ []) [] → (w, y) ≡ lineWritten out (refusalBytes number)
@@ -68,13 +69,13 @@ module _ (out : List ℕ) (w : Written) (y : List ℕ) where
   -- a question
   module _ (line words : List ℕ) (asked : Question) (a : asked ≡ questionRead (bytesOf line)) where
     abbrev told : Question → List ℕ
-    told q = replyBytes (meaning.ask (tableOf words) 512 (askedFrom (q .object) (q .question) (q .value)))
+    told q = replyBytes (meaning.ask (tableOf words) mostRows (askedFrom (q .object) (q .question) (q .value)))
 
     answer-is : (c : Bool) → asked .ok ≡ c → pick c (told asked) (refusalBytes 1) ≡ questionAnswer line words
     unfolding questionAnswer
     answer-is c h = ap (λ (k : Bool). pick k (told asked) (refusalBytes 1)) (sym h) ∙ ap (λ (q : Question). pick (q .ok) (told q) (refusalBytes 1)) a
 
-    pub question-told : asked .ok ≡ true → (w, y) ≡ lineWritten out (replyBytes (meaning.ask (tableOf words) 512 (askedFrom (asked .object) (asked .question) (asked .value)))) → (w, y) ≡ lineWritten out (questionAnswer line words)
+    pub question-told : asked .ok ≡ true → (w, y) ≡ lineWritten out (replyBytes (meaning.ask (tableOf words) mostRows (askedFrom (asked .object) (asked .question) (asked .value)))) → (w, y) ≡ lineWritten out (questionAnswer line words)
     question-told h p = p ∙ ap (lineWritten out) (answer-is true h)
 
     pub question-misshapen : asked .ok ≡ false → (w, y) ≡ printed out refused (1 ∷ []) [] → (w, y) ≡ lineWritten out (questionAnswer line words)

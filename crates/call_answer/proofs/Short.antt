@@ -16,7 +16,7 @@ use Rattle.line_read.specs.Types.{count, done}
 use Rattle.line_read.specs.Named.{openingRead, questionRead}
 use Rattle.line_read.proofs.Lengths.{line-length}
 use Rattle.line_decode.specs.Decoding.{bytesOf}
-use Rattle.call_question.specs.AnswerBytes.{refusalBytes, replyBytes}
+use Rattle.call_question.specs.AnswerBytes.{refusalBytes, replyBytes, longestAnswerBytes}
 use Rattle.call_question.proofs.Short.{refusal-long, reply-short}
 use Rattle.call_checked.specs.declared.Opened.{Opened}
 use Rattle.call_checked.specs.declared.Opened.the-variants as opened
@@ -27,47 +27,48 @@ use Rattle.call_checked.specs.declared.Settled.the-variants as settled
 use Rattle.call_checked.specs.Called.{receivedOn, settledOn}
 use Rattle.call_answer.specs.Answering.{answerOn, doneBytes, issueAnswer, openedBytes, questionAnswer, receivedBytes, secondOpening, settledBytes}
 use Rattle.call_answer.proofs.Framing.{issue-short}
+use Rattle.meaning.specs.Table.{mostRows}
 
-pub refusal-short : (number : ℕ) → length (refusalBytes number) ≤ 2051
+pub refusal-short : (number : ℕ) → length (refusalBytes number) ≤ longestAnswerBytes
 refusal-short number = omega (arith, refusal-long number)
 
-done-short : length doneBytes ≤ 2051
+done-short : length doneBytes ≤ longestAnswerBytes
 unfolding doneBytes lengthOf
 done-short = omega (arith, line-length done [] [] refl)
 
-pub opened-short : (r : Opened) → length (openedBytes r) ≤ 2051
+pub opened-short : (r : Opened) → length (openedBytes r) ≤ longestAnswerBytes
 unfolding openedBytes
 opened-short (opened.Refused number) = refusal-short number
 opened-short opened.Fresh = done-short
 
-received-short : (r : Received) → length (receivedBytes r) ≤ 2051
+received-short : (r : Received) → length (receivedBytes r) ≤ longestAnswerBytes
 unfolding receivedBytes
 received-short (received.Refused number) = refusal-short number
 received-short received.Accepted = done-short
 
-settled-short : (r : Settled) → length (settledBytes r) ≤ 2051
+settled-short : (r : Settled) → length (settledBytes r) ≤ longestAnswerBytes
 unfolding settledBytes lengthOf
 settled-short (settled.Refused number) = refusal-short number
 settled-short (settled.Steps steps) = omega (arith, line-length count (steps .0 ∷ []) [] refl)
 
 module _ (words : List ℕ) (K : Checked words) (line : List ℕ) where
-  question-short : length (questionAnswer line words) ≤ 2051
+  question-short : length (questionAnswer line words) ≤ longestAnswerBytes
   unfolding questionAnswer
   question-short = by (questionRead (bytesOf line) .ok)
     where
-      by : (b : Bool) → length (pick b (replyBytes (meaning.ask (tableOf words) 512 (askedFrom (questionRead (bytesOf line) .object) (questionRead (bytesOf line) .question) (questionRead (bytesOf line) .value)))) (refusalBytes 1)) ≤ 2051
-      by true = reply-short words K 512 (askedFrom (questionRead (bytesOf line) .object) (questionRead (bytesOf line) .question) (questionRead (bytesOf line) .value))
+      by : (b : Bool) → length (pick b (replyBytes (meaning.ask (tableOf words) mostRows (askedFrom (questionRead (bytesOf line) .object) (questionRead (bytesOf line) .question) (questionRead (bytesOf line) .value)))) (refusalBytes 1)) ≤ longestAnswerBytes
+      by true = reply-short words K mostRows (askedFrom (questionRead (bytesOf line) .object) (questionRead (bytesOf line) .question) (questionRead (bytesOf line) .value))
       by false = refusal-short 1
 
-  second-short : length (secondOpening line) ≤ 2051
+  second-short : length (secondOpening line) ≤ longestAnswerBytes
   unfolding secondOpening
   second-short = refusal-short (pick (openingRead (bytesOf line) .ok) 13 1)
 
-pub answer-short : (words : List ℕ) → Checked words → (type : ℕ) (line : List ℕ) → length (answerOn type line words .0) ≤ 2051
+pub answer-short : (words : List ℕ) → Checked words → (type : ℕ) (line : List ℕ) → length (answerOn type line words .0) ≤ longestAnswerBytes
 unfolding answerOn
 answer-short words K type line = by (eqb type 32) (eqb type 33) (eqb type 48) (eqb type 64) (eqb type 16)
   where
-    by : (a b c d e : Bool) → length (pick a (receivedBytes (receivedOn line words .0), receivedOn line words .1) (pick b (issueAnswer line words) (pick c (settledBytes (settledOn line words .0), settledOn line words .1) (pick d (questionAnswer line words, words) (pick e (secondOpening line, words) (refusalBytes 1, words))))) .0) ≤ 2051
+    by : (a b c d e : Bool) → length (pick a (receivedBytes (receivedOn line words .0), receivedOn line words .1) (pick b (issueAnswer line words) (pick c (settledBytes (settledOn line words .0), settledOn line words .1) (pick d (questionAnswer line words, words) (pick e (secondOpening line, words) (refusalBytes 1, words))))) .0) ≤ longestAnswerBytes
     by true b c d e = received-short (receivedOn line words .0)
     by false true c d e = issue-short words K line
     by false false true d e = settled-short (settledOn line words .0)

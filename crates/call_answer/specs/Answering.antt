@@ -2,14 +2,14 @@
 use mathlib.Core.List.{List, [], _∷_}
 use Prim.Native.Nat.{ℕ}
 use lib.Dec.{eqb}
-use Rattle.meaning.specs.Table.{greatestCapacity}
+use Rattle.meaning.specs.Table.{mostRows}
 use Rattle.meaning.specs.Calls as meaning
 use Rattle.words_layout.specs.Layout.{rewritten, tableOf}
 use Rattle.refusal_kind.specs.Asking.{askedFrom}
 use Rattle.line_hex.specs.Choice.{pick}
 use Rattle.line_put.specs.Writing.{lineWritten}
 use Rattle.line_put.specs.declared.Written.{Written}
-use Rattle.line_read.specs.Types.{Line, count, done, issue, lineOf, opening, operation, question, settling}
+use Rattle.line_read.specs.Types.{Line, count, done, issue, lineOf, opening, operation, question, settling, longestFrame}
 use Rattle.line_read.specs.Named.{issueRead, openingRead, questionRead}
 use Rattle.line_decode.specs.Decoding.{bytesOf}
 use Rattle.call_question.specs.AnswerBytes.{refusalBytes, replyBytes}
@@ -53,7 +53,7 @@ unfoldable pub questionAnswer : List ℕ → List ℕ → List ℕ
 questionAnswer line words =
     let asked = questionRead (bytesOf line) in
     pick (asked .ok)
-    (replyBytes (meaning.ask (tableOf words) greatestCapacity (askedFrom (asked .object) (asked .question) (asked .value))))
+    (replyBytes (meaning.ask (tableOf words) mostRows (askedFrom (asked .object) (asked .question) (asked .value))))
     (refusalBytes 1)
 
 -- "a second opening gets `ff0d`"
@@ -80,6 +80,6 @@ answerOn type line words =
 unfoldable pub answeredAfter : List ℕ → List ℕ × List ℕ → Written × (List ℕ × List ℕ)
 answeredAfter out (bytes, words) = (lineWritten out bytes .0, (words, lineWritten out bytes .1))
 
--- The characters of the longest frame's line behind `00`: 9 bytes and 16 entries.
+-- The characters of the longest frame's line behind `00`.
 abbrev pub frameRoom : ℕ
-frameRoom = 149
+frameRoom = 2 + longestFrame

@@ -10,9 +10,7 @@ use call_checked::Opened;
 use call_checked::Received;
 use call_checked::Settled;
 use line_put::Written;
-
-// A second opening, in its right shape.
-const SECOND_OPENING: u32 = 13;
+use refusal_number::UNOPENED;
 
 // How many characters a byte has, and how many bytes `00` is.
 const CHARACTERS: usize = 2;
@@ -78,7 +76,7 @@ fn answer_question(space: &[u32], line: &[u8], out: &mut [u8]) -> Written
             out,
         );
     }
-    line_print::write_refusal(out, call_checked::MISSHAPEN)
+    line_print::write_refusal(out, refusal_number::MISSHAPEN)
 }
 
 // The answer to an opening where a table is: 13, or 1 where it is no opening.
@@ -86,9 +84,9 @@ fn answer_opening(line: &[u8], out: &mut [u8]) -> Written
     ensures { λ w. ⌜ (w, now (out .exit)) ≡ lineWritten (now (out .entry)) (secondOpening (now (line .entry))) ⌝ }
 {
     if line_decode::is_opening(line) {
-        return line_print::write_refusal(out, SECOND_OPENING);
+        return line_print::write_refusal(out, UNOPENED);
     }
-    line_print::write_refusal(out, call_checked::MISSHAPEN)
+    line_print::write_refusal(out, refusal_number::MISSHAPEN)
 }
 
 // The answer to a line of this type.
@@ -111,5 +109,5 @@ pub fn answer_line(space: &mut [u32], line: &[u8], kind: u8, out: &mut [u8]) -> 
     if kind == line_read::OPENING {
         return answer_opening(line, out);
     }
-    line_print::write_refusal(out, call_checked::MISSHAPEN)
+    line_print::write_refusal(out, refusal_number::MISSHAPEN)
 }

@@ -7,7 +7,7 @@ use lib.Dec.{leb}
 use lib.ListN.{length, take, drop}
 use borrow.Author.Tests.{ne-eqb}
 use Rattle.meaning.specs.Order.{raised}
-use Rattle.meaning.specs.Table.{Table}
+use Rattle.meaning.specs.Table.{Table, greatestSize}
 use Rattle.meaning.specs.Refusals.{Local, refusalOfLocal, issuedBy}
 use Rattle.meaning.specs.Calls as meaning
 use Rattle.meaning.specs.Calls.{outcome, afterArrival}
@@ -76,7 +76,7 @@ module _ (words out : List ℕ) (K : Checked words) (f : Issue) (number : ℕ) (
   pub issue-accepted : number ≡ 0 → refusalOfLocal table local ≡ 0
   issue-accepted z = sym e ∙ z
 
-  module _ (z : number ≡ 0) (size : ℕ) (en : size ≡ sizeIn words) (next : List ℕ) (g : next ≡ padded 16 (raised (table .clock) (ownIn words))) where
+  module _ (z : number ≡ 0) (size : ℕ) (en : size ≡ sizeIn words) (next : List ℕ) (g : next ≡ padded greatestSize (raised (table .clock) (ownIn words))) where
     taken : meaning.issue table (localOf f) ≡ meaning.Outcome.accepted (issuedBy table local) (afterArrival table (issuedBy table local) (table .last))
     unfolding meaning.issue outcome localOf
     taken = rw (sym e, z) refl

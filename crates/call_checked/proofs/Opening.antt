@@ -22,6 +22,7 @@ use Rattle.line_decode.proofs.Decoding.{heard-front, heard-room}
 use Rattle.call_checked.specs.declared.Opened.{Opened}
 use Rattle.call_checked.specs.declared.Opened.the-variants as called
 use Rattle.call_checked.specs.Called.{openedAs, headerRead, openedBy}
+use Rattle.line_read.specs.Types.{longest}
 
 module _ (words : List ℕ) (needed : ℕ) (header : Header) (refusal : ℕ) (e : refusal ≡ firstOf (openingRefusals (length words) needed header)) where
   pub open-refused : (refusal ≡ 0 → ⊥) → (called.Refused refusal, words) ≡ openedAs words (meaning.openTable (length words) needed header)
@@ -49,7 +50,7 @@ module _ (words : List ℕ) (needed : ℕ) (header : Header) (refusal : ℕ) (e 
   open-fresh z x f = ap (λ (l : List ℕ). (called.Fresh, l)) f ∙ sym (ap (openedAs words) (open-taken z))
 
 -- the line
-module _ (line buffer : List ℕ) (long : length buffer ≡ 261) (n : ℕ) (x : List ℕ) (h : (n, x) ≡ decodedInto line buffer) (asked : Opening) (a : asked ≡ openingRead (take (n - 0) x)) where
+module _ (line buffer : List ℕ) (long : length buffer ≡ longest) (n : ℕ) (x : List ℕ) (h : (n, x) ≡ decodedInto line buffer) (asked : Opening) (a : asked ≡ openingRead (take (n - 0) x)) where
   asked-is : asked ≡ openingRead (bytesOf line)
   asked-is = a ∙ ap openingRead (heard-front line buffer long n x h)
 

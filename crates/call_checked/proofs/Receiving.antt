@@ -9,7 +9,7 @@ use lib.ListN.{length, take, drop, take-append-drop, length-append}
 use borrow.Author.Tests.{eq-eqb, eqb-true, ne-eqb}
 use Rattle.meaning.specs.Refusals.{Frame, wellShaped, frameRefusals, arrivalRefusals, refusalOfFrame}
 use Rattle.meaning.specs.Operations as meant
-use Rattle.meaning.specs.Table.{Table}
+use Rattle.meaning.specs.Table.{Table, greatestSize}
 use Rattle.meaning.specs.Calls as meaning
 use Rattle.meaning.proofs.Tests.{cases}
 use Rattle.meaning.specs.Calls.{outcome}
@@ -107,7 +107,7 @@ module _ (line words : List ℕ) (f : Operation) (a : f ≡ operationRead (bytes
   receive-shaped h r x g = g ∙ ap (λ (q : Operation). receivedAs words (meaning.receive (tableOf words) (frameOf q))) a
       ∙ sym (picked (operationRead (bytesOf line) .ok) (receivedAs words (meaning.receive (tableOf words) (frameOf (operationRead (bytesOf line))))) (received.Refused 1, words) (ok-is true h))
 
-  pub read-few : f .ok ≡ true → f .stations ≤ 16
+  pub read-few : f .ok ≡ true → f .stations ≤ greatestSize
   read-few h = rw (ap (λ (q : Operation). q .stations) a) (operation-stations-few (bytesOf line) (ok-is true h))
 
   pub read-long : f .ok ≡ true → length (take (f .stations) (f .vector)) ≡ f .stations

@@ -6,7 +6,7 @@ use Prim.Native.Nat.{ℕ, _≤_, _<_}
 use native.Mathlib.Omega.{arith}
 use lib.ListN.{drop, take}
 use borrow.Author.Tests.{le-leb}
-use Rattle.meaning.specs.Refusals.{refusalOfSettling, settlingRefusals}
+use Rattle.meaning.specs.Refusals.{refusalOfSettling, settlingRefusals, greatestLimit}
 use Rattle.meaning.specs.Calls as meaning
 use Rattle.meaning.specs.Calls.{withRows, rowsSettled, steps}
 use Rattle.meaning.proofs.Tests.{cases}
@@ -19,7 +19,7 @@ use Rattle.line_hex.proofs.Spelling.{all-bytes-pairs}
 use Rattle.line_shape.specs.Reading.{fieldsRead, hasShape, padded}
 use Rattle.line_shape.specs.Shapes.{read, lengthOf}
 use Rattle.line_read.specs.declared.Settling.{Settling}
-use Rattle.line_read.specs.Types.{lineRead}
+use Rattle.line_read.specs.Types.{lineRead, longest}
 use Rattle.line_read.specs.Named.{settlingRead}
 use Rattle.line_decode.specs.Decoding.{bytesOf}
 use Rattle.call_checked.specs.declared.Settled.the-variants as settled
@@ -28,7 +28,7 @@ use Rattle.call_checked.specs.Called.{settledAs, settledOn}
 -- what is heard is bytes
 pub heard-bytes : (line : List ℕ) → AllBytes (bytesOf line)
 unfolding bytesOf AllBytes
-heard-bytes line = cases (isLine 261 line) (λ b. rw b (all-bytes-pairs 261 line)) (λ b. rw b tt)
+heard-bytes line = cases (isLine longest line) (λ b. rw b (all-bytes-pairs longest line)) (λ b. rw b tt)
 
 two-bytes : (bs : List ℕ) → AllBytes bs → numberOf (take 2 bs) < 65536
 unfolding AllBytes numberFrom
@@ -36,7 +36,7 @@ two-bytes [] h = omega arith
 two-bytes (a ∷ []) h = omega (arith, h .0)
 two-bytes (a ∷ b ∷ bs) h = omega (arith, h .0, h .1 .0)
 
-pub limit-read : (bytes : List ℕ) → AllBytes bytes → settlingRead bytes .limit ≤ 65535
+pub limit-read : (bytes : List ℕ) → AllBytes bytes → settlingRead bytes .limit ≤ greatestLimit
 unfolding settlingRead lineRead fieldsRead read padded hasShape lengthOf
 limit-read bytes h = cases (hasShape 48 3 bytes)
     (λ b. rw b (let k = two-bytes (drop 1 bytes) (all-bytes-drop 1 bytes h) in omega arith))
@@ -50,9 +50,9 @@ module _ (line words : List ℕ) (asked : Settling) (a : asked ≡ settlingRead 
   unfolding settledOn
   settle-misshapen f = rw (ok-is false f) refl
 
-  taken-as : (limit : ℕ) → limit ≤ 65535 → settledAs words (meaning.settle (tableOf words) limit) ≡ (settled.Steps (record { 0 = steps (tableOf words) limit }), rewritten words (withRows (tableOf words) (rowsSettled (tableOf words) limit)))
+  taken-as : (limit : ℕ) → limit ≤ greatestLimit → settledAs words (meaning.settle (tableOf words) limit) ≡ (settled.Steps (record { 0 = steps (tableOf words) limit }), rewritten words (withRows (tableOf words) (rowsSettled (tableOf words) limit)))
   unfolding settledAs meaning.settle refusalOfSettling settlingRefusals
-  taken-as limit h = rw (le-leb limit 65535 h) refl
+  taken-as limit h = rw (le-leb limit greatestLimit h) refl
 
   pub settle-taken : asked .ok ≡ true → (k : RowCount) (x : List ℕ) → k .0 ≡ steps (tableOf words) (asked .limit) → x ≡ rewritten words (withRows (tableOf words) (rowsSettled (tableOf words) (asked .limit))) → (settled.Steps k, x) ≡ settledOn line words
   unfolding settledOn

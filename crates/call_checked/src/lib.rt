@@ -7,18 +7,15 @@ ghost use Rattle.words_layout.specs.Layout.{spaceFor, tableOf};
 ghost use Rattle.table_rules.specs.Checked.{Checked};
 ghost use Rattle.table_ranges.specs.Headers.{headerOf};
 ghost use Rattle.call_checked.specs.Called.{frameOf, issuedAs, issuedOn, localOf, openedAs, openedBy, receivedAs, receivedOn, repliedOn, settledOn};
+ghost use Rattle.meaning.specs.Table.{greatestSize};
 use line_put::Written;
 use question::Reply;
+use refusal_number::MISSHAPEN;
+use refusal_number::NO_ROOM;
 use refusal_order::Header;
 use refusal_order::Sent;
 use words_tags::RowCount;
 use words_tags::Station;
-
-// A line that is not of the call's type and shape.
-pub const MISSHAPEN: u32 = 1;
-
-// The frame space is shorter than the frame.
-const NO_ROOM: u32 = 10;
 
 // What an opening answers: a refusal's number, or nothing but that the table is fresh.
 pub enum Opened {
@@ -56,7 +53,7 @@ fn open_with(space: &mut [u32], asked: line_read::Opening, kinds: &[u8]) -> Open
         capacity,
     };
     let refusal = refusal_order::opening_refusal(h, kinds, space.len());
-    if refusal != refusal_order::NONE {
+    if refusal != refusal_number::NONE {
         return Opened::Refused(refusal);
     }
     table_opening::lay_table(space, asked.stations, own, capacity, kinds);
@@ -78,7 +75,7 @@ pub fn open_line(space: &mut [u32], line: &[u8]) -> Opened
 
 // A frame that was read from its line.
 fn receive_read(space: &mut [u32], f: line_read::Operation) -> Received
-    requires { ⌜ Checked (now space) × (f .stations ≤ 16) × (length (take (f .stations) (f .vector)) ≡ f .stations) ⌝ }
+    requires { ⌜ Checked (now space) × (f .stations ≤ greatestSize) × (length (take (f .stations) (f .vector)) ≡ f .stations) ⌝ }
     ensures { λ r. ⌜ (r, now (space .exit)) ≡ receivedAs (now (space .entry)) (receive (tableOf (now (space .entry))) (frameOf f)) ⌝ }
 {
     if f.stations != space[words_layout::SIZE_AT] {
@@ -93,7 +90,7 @@ fn receive_read(space: &mut [u32], f: line_read::Operation) -> Received
     let end = words_tags::wide(f.stations);
     let vector = f.vector;
     let refusal = arrival_frame::receive_frame(space, sent, &vector[0..end]);
-    if refusal != refusal_order::NONE {
+    if refusal != refusal_number::NONE {
         return Received::Refused(refusal);
     }
     Received::Accepted
@@ -117,7 +114,7 @@ fn issue_read(space: &mut [u32], f: line_read::Issue, out: &mut [u8]) -> Issued
     ensures { λ r. ⌜ (r, (now (space .exit), now (out .exit))) ≡ issuedAs (now (space .entry)) (now (out .entry)) (issue (tableOf (now (space .entry))) (localOf f)) ⌝ }
 {
     let refusal = arrival_local::issue_number(space, f.object, f.code, f.value);
-    if refusal != refusal_order::NONE {
+    if refusal != refusal_number::NONE {
         return Issued::Refused(refusal);
     }
     let size = words_tags::wide(space[words_layout::SIZE_AT]);

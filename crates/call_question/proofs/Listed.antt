@@ -22,6 +22,7 @@ use Rattle.line_put.specs.declared.Written.the-variants.{Characters, TooShort}
 use Rattle.line_put.proofs.Whole.{write-short, write-room, write-end, write-done}
 use Rattle.call_question.specs.AnswerBytes.{listBytes}
 use Rattle.call_question.proofs.Values.{listed}
+use Rattle.meaning.specs.Table.{mostRows}
 
 -- no row shows more than one value
 shown-few : (o : ℕ) (rows : List Row) → length (shown o rows) ≤ length rows
@@ -30,7 +31,7 @@ shown-few o (row ∷ rows) = cases (shows o row rows)
     (λ q. rw q (omega (arith, shown-few o rows)))
     (λ q. rw q (omega (arith, shown-few o rows)))
 
-pub values-few : (s : List ℕ) → Checked s → (o : ℕ) → length (listed s o) ≤ 512
+pub values-few : (s : List ℕ) → Checked s → (o : ℕ) → length (listed s o) ≤ mostRows
 unfolding valuesBehind tableOf
 values-few s K o =
     let all = ap (λ (l : List ℕ). length l) (all-left o (tableOf s) (K .by-rules)) in

@@ -7,7 +7,7 @@ use lib.Dec.{eqb, ltb}
 use lib.ListN.{length}
 use borrow.Author.Tests.{eqb-true, le-ltb}
 use Rattle.meaning.specs.Rows.{countByRows}
-use Rattle.meaning.specs.Table.{Table, kindIn}
+use Rattle.meaning.specs.Table.{Table, kindIn, mostRows}
 use Rattle.meaning.specs.Questions as question
 use Rattle.meaning.specs.Questions.{Asked, Source, byRows, answerFrom, fits}
 use Rattle.meaning.specs.Refusals.{_when_, firstOf, declared, wellAsked, listTooLong, askedRefusals, questionRefusals}
@@ -113,10 +113,10 @@ module _ (s : List ℕ) (K : Checked s) (object asking value : ℕ) where
   long room = listTooLong (byRows t) room asked
 
   -- a line has room for every list
-  pub never-long : long 512 ≡ false
+  pub never-long : long mostRows ≡ false
   unfolding listTooLong
   never-long = cases (eqb asking 3)
-      (λ q. rw q (le-ltb 512 (length (listed s object)) (values-few s K object)))
+      (λ q. rw q (le-ltb mostRows (length (listed s object)) (values-few s K object)))
       (λ q. rw q refl)
 
   list-asked : long 0 ≡ true → answerFrom (byRows t) asked ≡ question.list (listed s object)
@@ -125,7 +125,7 @@ module _ (s : List ℕ) (K : Checked s) (object asking value : ℕ) where
       (λ q. let three : asking ≡ 3 = eqb-true asking 3 q in rw three refl)
       (λ q. absurd (false≢true (sym q ∙ and-left (eqb asking 3) (ltb 0 (length (listed s object))) e)))
 
-  bytes-told : toldBytes (replied (ask t 0 asked) [] .0) (listed s object) ≡ replyBytes (ask t 512 asked)
+  bytes-told : toldBytes (replied (ask t 0 asked) [] .0) (listed s object) ≡ replyBytes (ask t mostRows asked)
   unfolding ask askOf questionRefusals askedRefusals
   bytes-told =
       let one = not (wellAsked asked) in
@@ -150,34 +150,34 @@ module _ (s : List ℕ) (K : Checked s) (object asking value : ℕ) where
     unfolding countTold
     list-counted k h = ap (λ (q : code.Reply). countTold q (byRows t .countAt object)) (sym h ∙ reply-is) ∙ count-told
 
-    bytes-are : (q : code.Reply) → r ≡ q → toldBytes q (listed s object) ≡ replyBytes (ask t 512 asked)
+    bytes-are : (q : code.Reply) → r ≡ q → toldBytes q (listed s object) ≡ replyBytes (ask t mostRows asked)
     bytes-are q h = ap (λ (q : code.Reply). toldBytes q (listed s object)) (sym h ∙ reply-is) ∙ bytes-told
 
     module _ (out : List ℕ) (w : Written) (y : List ℕ) where
-      pub refused-told : (number : ℕ) → r ≡ says.Refused number → (w, y) ≡ printed out refused (number ∷ []) [] → (w, y) ≡ lineWritten out (replyBytes (ask t 512 asked))
+      pub refused-told : (number : ℕ) → r ≡ says.Refused number → (w, y) ≡ printed out refused (number ∷ []) [] → (w, y) ≡ lineWritten out (replyBytes (ask t mostRows asked))
       unfolding toldBytes printed refusalBytes
       refused-told number h p = p ∙ ap (lineWritten out) (bytes-are (says.Refused number) h)
 
-      pub too-long-told : (k : RowCount) → r ≡ says.TooLong k → (w, y) ≡ lineWritten out (listBytes (listed s object)) → (w, y) ≡ lineWritten out (replyBytes (ask t 512 asked))
+      pub too-long-told : (k : RowCount) → r ≡ says.TooLong k → (w, y) ≡ lineWritten out (listBytes (listed s object)) → (w, y) ≡ lineWritten out (replyBytes (ask t mostRows asked))
       unfolding toldBytes
       too-long-told k h p = p ∙ ap (lineWritten out) (bytes-are (says.TooLong k) h)
 
-      pub total-told : (high low : ℕ) → r ≡ says.Total high low → (w, y) ≡ printed out sum (high ∷ low ∷ []) [] → (w, y) ≡ lineWritten out (replyBytes (ask t 512 asked))
+      pub total-told : (high low : ℕ) → r ≡ says.Total high low → (w, y) ≡ printed out sum (high ∷ low ∷ []) [] → (w, y) ≡ lineWritten out (replyBytes (ask t mostRows asked))
       unfolding toldBytes printed
       total-told high low h p = p ∙ ap (lineWritten out) (bytes-are (says.Total high low) h)
 
-      pub flag-told : (on : Bool) → r ≡ says.Flag on → (b : ℕ) → b ≡ cond on 1 0 → (w, y) ≡ printed out flag (b ∷ []) [] → (w, y) ≡ lineWritten out (replyBytes (ask t 512 asked))
+      pub flag-told : (on : Bool) → r ≡ says.Flag on → (b : ℕ) → b ≡ cond on 1 0 → (w, y) ≡ printed out flag (b ∷ []) [] → (w, y) ≡ lineWritten out (replyBytes (ask t mostRows asked))
       unfolding toldBytes printed
       flag-told on h b g p = p ∙ ap (λ (k : ℕ). lineWritten out (lineOf flag (k ∷ []) [])) g ∙ ap (lineWritten out) (bytes-are (says.Flag on) h)
 
-      pub list-told : (k : RowCount) → r ≡ says.List k → (w, y) ≡ lineWritten out (listBytes (listed s object)) → (w, y) ≡ lineWritten out (replyBytes (ask t 512 asked))
+      pub list-told : (k : RowCount) → r ≡ says.List k → (w, y) ≡ lineWritten out (listBytes (listed s object)) → (w, y) ≡ lineWritten out (replyBytes (ask t mostRows asked))
       unfolding toldBytes
       list-told k h p = p ∙ ap (lineWritten out) (bytes-are (says.List k) h)
 
-      pub number-told : (k : RowCount) → r ≡ says.Count k → (w, y) ≡ printed out count (k .0 ∷ []) [] → (w, y) ≡ lineWritten out (replyBytes (ask t 512 asked))
+      pub number-told : (k : RowCount) → r ≡ says.Count k → (w, y) ≡ printed out count (k .0 ∷ []) [] → (w, y) ≡ lineWritten out (replyBytes (ask t mostRows asked))
       unfolding toldBytes printed
       number-told k h p = p ∙ ap (lineWritten out) (bytes-are (says.Count k) h)
 
-      pub holds-told : (there : Bool) → r ≡ says.Holds there → (b : ℕ) → b ≡ cond there 1 0 → (w, y) ≡ printed out flag (b ∷ []) [] → (w, y) ≡ lineWritten out (replyBytes (ask t 512 asked))
+      pub holds-told : (there : Bool) → r ≡ says.Holds there → (b : ℕ) → b ≡ cond there 1 0 → (w, y) ≡ printed out flag (b ∷ []) [] → (w, y) ≡ lineWritten out (replyBytes (ask t mostRows asked))
       unfolding toldBytes printed
       holds-told there h b g p = p ∙ ap (λ (k : ℕ). lineWritten out (lineOf flag (k ∷ []) [])) g ∙ ap (lineWritten out) (bytes-are (says.Holds there) h)

@@ -7,6 +7,7 @@ use Rattle.meaning.specs.Questions as question
 use Rattle.meaning.specs.Calls as meaning
 use Rattle.words_layout.specs.Layout.{totalWords}
 use Rattle.line_read.specs.Types.{count, flag, lineOf, refused, sum}
+use Rattle.meaning.specs.Table.{mostRows}
 
 -- "list a 2-byte count, then the different values ascending"
 unfoldable pub listBytes : List ℕ → List ℕ
@@ -25,3 +26,7 @@ replyBytes (meaning.Reply.answered (question.flag on)) = lineOf flag (cond on 1 
 replyBytes (meaning.Reply.answered (question.list values)) = listBytes values
 replyBytes (meaning.Reply.answered (question.count number)) = lineOf count (number ∷ []) []
 replyBytes (meaning.Reply.answered (question.holds there)) = lineOf flag (cond there 1 0 ∷ []) []
+
+-- The bytes of the longest answer, a list: `00`, a 2-byte count, and a value for each row of the largest table.
+abbrev pub longestAnswerBytes : ℕ
+longestAnswerBytes = 3 + 4 * mostRows

@@ -3,7 +3,7 @@ ghost use mathlib.Core.Path.{_≡_};
 ghost use mathlib.Core.Bool.{cond};
 ghost use Prim.Native.Nat.{_+_, _*_, _≤_};
 ghost use lib.ListN.{length};
-ghost use Rattle.meaning.specs.Table.{greatestCapacity};
+ghost use Rattle.meaning.specs.Table.{mostRows};
 ghost use Rattle.meaning.specs.Questions.{byRows};
 ghost use Rattle.meaning.specs.Calls.{ask};
 ghost use Rattle.words_layout.specs.Layout.{tableOf};
@@ -68,7 +68,7 @@ fn write_list(s: &[u32], object: u32, count: RowCount, out: &mut [u8]) -> Writte
 // Writes the answer to a question. It is asked with no room for a list: 11 then brings the count with which the list is written.
 pub fn answer_question(s: &[u32], object: u32, question: u32, value: u32, out: &mut [u8]) -> Written
     requires { ⌜ Checked (now s) ⌝ }
-    ensures { λ r. ⌜ (r, now (out .exit)) ≡ lineWritten (now (out .entry)) (replyBytes (ask (tableOf (now (s .entry))) greatestCapacity (askedFrom object question value))) ⌝ }
+    ensures { λ r. ⌜ (r, now (out .exit)) ≡ lineWritten (now (out .entry)) (replyBytes (ask (tableOf (now (s .entry))) mostRows (askedFrom object question value))) ⌝ }
 {
     let mut none = [0u32; 1];
     match question::ask_table(s, object, question, value, &mut none[0..0]) {

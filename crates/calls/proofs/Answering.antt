@@ -21,10 +21,10 @@ use Rattle.line_put.specs.Writing.{lineWritten}
 use Rattle.line_put.specs.declared.Written.{Written}
 use Rattle.line_put.specs.declared.Written.the-variants as written
 use Rattle.line_put.proofs.Whole.{length-hex-line}
-use Rattle.line_read.specs.Types.{isOf, refused}
+use Rattle.line_read.specs.Types.{isOf, refused, longest}
 use Rattle.line_read.specs.Named.{printingRead}
 use Rattle.line_print.specs.Printed.{printed}
-use Rattle.call_question.specs.AnswerBytes.{refusalBytes}
+use Rattle.call_question.specs.AnswerBytes.{refusalBytes, longestAnswerBytes}
 use Rattle.call_question.proofs.Short.{refusal-long}
 use Rattle.form_write.specs.Forms.{formedOf, lineAt, lineInto, savedForm}
 use Rattle.form_write.proofs.Short.{Short, form-short}
@@ -33,13 +33,13 @@ use Rattle.form_save.specs.declared.Saved.{Saved}
 use Rattle.form_save.specs.declared.Saved.the-variants as saved
 use Rattle.call_checked.specs.declared.Opened.{Opened}
 use Rattle.call_checked.specs.Called.{openedBy}
-use Rattle.call_answer.specs.Answering.{answerOn, openedBytes, answeredAfter}
+use Rattle.call_answer.specs.Answering.{answerOn, openedBytes, answeredAfter, frameRoom}
 use Rattle.call_answer.proofs.Choosing.{told}
 use Rattle.call_answer.proofs.Short.{answer-short, opened-short, refusal-short}
 use Rattle.line_decode.specs.Decoding.{byteOfType, bytesOf, typeOf}
 use Rattle.calls.specs.declared.Answered.{Answered}
 use Rattle.calls.specs.declared.Answered.the-variants as answered
-use Rattle.calls.specs.Answers.{answeredBy, answerOf, linesFor, printedAt, spaceAfter}
+use Rattle.calls.specs.Answers.{answeredBy, answerOf, linesFor, printedAt, spaceAfter, longestAnswer}
 use Rattle.calls.specs.LineOrEnd.{lineOrEnd}
 
 -- on a table, and before an accepted opening
@@ -61,15 +61,15 @@ module _ (line words out : List ℕ) (kind : ℕ) (k : kind ≡ typeOf line) (b 
     first-none n w y p = told out (refusalBytes 14) words (answerOf line words) (sym before ∙ rw (ne-eqb kind 16 n) refl) w y words p refl
 
 -- every answer's line has room
-pub answer-fits : (line words : List ℕ) → length (answerOf line words .0) ≤ 2051
+pub answer-fits : (line words : List ℕ) → length (answerOf line words .0) ≤ longestAnswerBytes
 unfolding answerOf
 answer-fits line words = by (holdsTable words) (λ h. answer-short words (checked words h) (typeOf line) line)
   where
-    other : (c : Bool) → length (pick {A = List ℕ × List ℕ} c (openedBytes (openedBy line words .0), openedBy line words .1) (refusalBytes 14, words) .0) ≤ 2051
+    other : (c : Bool) → length (pick {A = List ℕ × List ℕ} c (openedBytes (openedBy line words .0), openedBy line words .1) (refusalBytes 14, words) .0) ≤ longestAnswerBytes
     other true = opened-short (openedBy line words .0)
     other false = refusal-short 14
 
-    by : (b : Bool) → (b ≡ true → length (answerOn (typeOf line) line words .0) ≤ 2051) → length (pick {A = List ℕ × List ℕ} b (answerOn (typeOf line) line words) (pick (eqb (typeOf line) 16) (openedBytes (openedBy line words .0), openedBy line words .1) (refusalBytes 14, words)) .0) ≤ 2051
+    by : (b : Bool) → (b ≡ true → length (answerOn (typeOf line) line words .0) ≤ longestAnswerBytes) → length (pick {A = List ℕ × List ℕ} b (answerOn (typeOf line) line words) (pick (eqb (typeOf line) 16) (openedBytes (openedBy line words .0), openedBy line words .1) (refusalBytes 14, words)) .0) ≤ longestAnswerBytes
     by true f = f refl
     by false f = other (eqb (typeOf line) 16)
 
@@ -89,7 +89,7 @@ only-later bytes out zero h = absurd (omega arith)
 only-later bytes out (suc k) h = refl
 
 -- a refusal
-module _ (number : ℕ) (out : List ℕ) (room : 149 ≤ length out) (k : ℕ) where
+module _ (number : ℕ) (out : List ℕ) (room : frameRoom ≤ length out) (k : ℕ) where
   pub refused-later : 0 < k → (answered.End, out) ≡ printedAt (refusalBytes number ∷ []) k out
   refused-later h = only-later (refusalBytes number) out k h
 
@@ -113,7 +113,7 @@ formed-later (saved.Refused number) y bytes form place out f = f
 formed-later (saved.Line n) y bytes form place out f = f
 formed-later saved.End y bytes form place out f = f
 
-form-at : (form : List (List ℕ)) → Short form → (place : ℕ) (out : List ℕ) → 149 ≤ length out → Formed-as (savedAs out (lineAt form place out) .0) (savedAs out (lineAt form place out) .1) form place out
+form-at : (form : List (List ℕ)) → Short form → (place : ℕ) (out : List ℕ) → frameRoom ≤ length out → Formed-as (savedAs out (lineAt form place out) .0) (savedAs out (lineAt form place out) .1) form place out
 unfolding savedAs lineAt printedAt lineInto formedOf
 form-at [] s place out room = refl
 form-at (bytes ∷ form) s zero out room = rw (said out bytes (omega (arith, length-hex-line bytes, s .0))) refl
@@ -131,7 +131,7 @@ formed-prints (saved.Refused number) y lines k out f = absurd f
 formed-prints (saved.Line n) y lines k out f = f
 formed-prints saved.End y lines k out f = f
 
-module _ (line words out : List ℕ) (t : typeOf line ≡ 96) (room : 149 ≤ length out) (k : ℕ) where
+module _ (line words out : List ℕ) (t : typeOf line ≡ 96) (room : frameRoom ≤ length out) (k : ℕ) where
   abbrev told-by : Bool → Bool → Saved × List ℕ
   told-by held read = pick held (pick read (savedAs out (lineAt (savedForm (tableOf words)) k out)) (saved.Refused 1, out)) (saved.Refused 14, out)
 
@@ -174,7 +174,7 @@ module _ (line words out : List ℕ) (t : typeOf line ≡ 96) (room : 149 ≤ le
     pub form-end : r ≡ saved.End → (answered.End, y) ≡ printedAt (linesFor line words) k out
     form-end h = prints-as saved.End h
 
-    pub form-room : (number : ℕ) → r ≡ saved.Refused number → 149 ≤ length y
+    pub form-room : (number : ℕ) → r ≡ saved.Refused number → frameRoom ≤ length y
     form-room number h = rw (prints-as (saved.Refused number) h .0) room
 
     pub form-refused : (number : ℕ) → r ≡ saved.Refused number → (a : Answered) (z : List ℕ) → (a, z) ≡ printedAt (refusalBytes number ∷ []) k y → (a, z) ≡ printedAt (linesFor line words) k out
@@ -193,10 +193,10 @@ starts-type n kind (h ∷ l ∷ line) e = by (isDigit h && isDigit l) e
 
 pub printing-type : (line : List ℕ) → printingRead (bytesOf line) ≡ true → typeOf line ≡ 96
 unfolding printingRead isOf hasShape bytesOf startsWith lengthOf
-printing-type line = by (isLine 261 line)
+printing-type line = by (isLine longest line)
   where
-    by : (b : Bool) → (eqb (length (pick b (pairs 261 line) [])) 1 && startsWith 96 (pick b (pairs 261 line) [])) ≡ true → typeOf line ≡ 96
-    by true e = starts-type 260 96 line (and-right (eqb (length (pairs 261 line)) 1) (startsWith 96 (pairs 261 line)) e)
+    by : (b : Bool) → (eqb (length (pick b (pairs longest line) [])) 1 && startsWith 96 (pick b (pairs longest line) [])) ≡ true → typeOf line ≡ 96
+    by true e = starts-type (longest - 1) 96 line (and-right (eqb (length (pairs longest line)) 1) (startsWith 96 (pairs longest line)) e)
     by false e = absurd (false≢true e)
 
 -- every other line is answered with one
@@ -205,7 +205,7 @@ module _ (line words out : List ℕ) (kind : ℕ) (e : kind ≡ typeOf line) whe
     pub is-printing : typeOf line ≡ 96
     is-printing = sym e ∙ z
 
-    pub answer-formed : length out ≡ 4103 → (r : Answered) (y : List ℕ) → (r, y) ≡ printedAt (linesFor line words) k out → (r, (words, y)) ≡ answeredBy line k words out
+    pub answer-formed : length out ≡ longestAnswer → (r : Answered) (y : List ℕ) → (r, y) ≡ printedAt (linesFor line words) k out → (r, (words, y)) ≡ answeredBy line k words out
     unfolding answeredBy
     answer-formed long r y p = ap₂ (λ (q : Answered × List ℕ) (l : List ℕ). (q .0, (l, q .1))) p (sym (printing-stays line words out is-printing (omega (arith, long)) k))
 
@@ -220,7 +220,7 @@ module _ (line words out : List ℕ) (kind : ℕ) (e : kind ≡ typeOf line) whe
     unfolding answeredBy spaceAfter
     answer-ended k h = rw (one-line, ne-eqb k 0 h) (ap (λ (q : Answered × List ℕ). (q .0, (words, q .1))) (only-later (answerOf line words .0) out k (omega (arith, h))))
 
-    pub answer-lined : (k : ℕ) → k ≡ 0 → length out ≡ 4103 → (w : Written) (x y : List ℕ) → (w, (x, y)) ≡ answeredAfter out (answerOf line words) → (r : Answered) → r ≡ lineOrEnd w → (r, (x, y)) ≡ answeredBy line k words out
+    pub answer-lined : (k : ℕ) → k ≡ 0 → length out ≡ longestAnswer → (w : Written) (x y : List ℕ) → (w, (x, y)) ≡ answeredAfter out (answerOf line words) → (r : Answered) → r ≡ lineOrEnd w → (r, (x, y)) ≡ answeredBy line k words out
     unfolding answeredBy spaceAfter answeredAfter
     answer-lined k zero-th long w x y p r f =
         let bytes = answerOf line words .0 in

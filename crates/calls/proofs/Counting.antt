@@ -10,15 +10,15 @@ use Rattle.table_rules.proofs.Checking.{checked}
 use Rattle.line_hex.specs.Choice.{pick}
 use Rattle.line_read.specs.Named.{printingRead}
 use Rattle.line_decode.specs.Decoding.{bytesOf}
-use Rattle.form_write.specs.Forms.{savedForm}
+use Rattle.form_write.specs.Forms.{savedForm, mostFormLines}
 use Rattle.form_write.proofs.Count.{form-count}
 use Rattle.calls.specs.Answers.{answerOf, linesFor}
 
-pub lines-count : (line words : List ℕ) → length (linesFor line words) ≤ 562
+pub lines-count : (line words : List ℕ) → length (linesFor line words) ≤ mostFormLines
 unfolding linesFor
 lines-count line words = by (holdsTable words) (printingRead (bytesOf line)) (λ h. form-count (tableOf words) (checked words h .by-rules))
   where
-    by : (held read : Bool) → (held ≡ true → length (savedForm (tableOf words)) ≤ 562) → length (pick (held && read) (savedForm (tableOf words)) (answerOf line words .0 ∷ [])) ≤ 562
+    by : (held read : Bool) → (held ≡ true → length (savedForm (tableOf words)) ≤ mostFormLines) → length (pick (held && read) (savedForm (tableOf words)) (answerOf line words .0 ∷ [])) ≤ mostFormLines
     by true true f = f refl
-    by true false f = let r : 1 ≤ 562 = omega arith in r
-    by false read f = let r : 1 ≤ 562 = omega arith in r
+    by true false f = let r : 1 ≤ mostFormLines = omega arith in r
+    by false read f = let r : 1 ≤ mostFormLines = omega arith in r

@@ -6,7 +6,7 @@ use Prim.Native.Nat.{ℕ, _+_, _≤_}
 use borrow.Author.Tests.{le-leb}
 use Rattle.meaning.specs.Rows.{unsettledCount}
 use Rattle.meaning.specs.Table.{Table}
-use Rattle.meaning.specs.Refusals.{refusalOfSettling, settlingRefusals}
+use Rattle.meaning.specs.Refusals.{refusalOfSettling, settlingRefusals, greatestLimit}
 use Rattle.meaning.specs.Calls as meaning
 use Rattle.meaning.specs.Calls.{withRows, rowsSettled, steps}
 use Rattle.meaning.proofs.Settling.{steps-are-fall}
@@ -30,9 +30,9 @@ abbrev Falls : List ℕ → Settled × List ℕ → Type 0
 Falls words answer = fallen (answer .0) words (answer .1)
 
 module _ (words : List ℕ) where
-  taken-falls : Checked words → (limit : ℕ) → limit ≤ 65535 → Falls words (settledAs words (meaning.settle (tableOf words) limit))
+  taken-falls : Checked words → (limit : ℕ) → limit ≤ greatestLimit → Falls words (settledAs words (meaning.settle (tableOf words) limit))
   unfolding fallen settledAs meaning.settle refusalOfSettling settlingRefusals
-  taken-falls K limit h = rw (le-leb limit 65535 h)
+  taken-falls K limit h = rw (le-leb limit greatestLimit h)
       (ap (λ (t : Table). steps (tableOf words) limit + unsettledCount (t .rows)) (table-back (withRows (tableOf words) (rowsSettled (tableOf words) limit)) (kept-by-settling (tableOf words) limit (K .by-rules)) words) ∙ steps-are-fall (tableOf words) limit)
 
   on-falls : Checked words → (line : List ℕ) → Falls words (settledOn line words)

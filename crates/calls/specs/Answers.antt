@@ -7,11 +7,11 @@ use lib.ListN.{drop, length}
 use Rattle.words_layout.specs.Layout.{holdsTable, tableOf}
 use Rattle.line_hex.specs.Choice.{pick}
 use Rattle.line_hex.specs.Hex.{hexLine}
-use Rattle.line_read.specs.Types.{opening}
+use Rattle.line_read.specs.Types.{opening, charactersOf}
 use Rattle.line_read.specs.Named.{printingRead}
 use Rattle.line_decode.specs.Decoding.{bytesOf, typeOf}
 use Rattle.form_write.specs.Forms.{savedForm}
-use Rattle.call_question.specs.AnswerBytes.{refusalBytes}
+use Rattle.call_question.specs.AnswerBytes.{refusalBytes, longestAnswerBytes}
 use Rattle.call_checked.specs.Called.{openedBy}
 use Rattle.call_answer.specs.Answering.{answerOn, changing, isType, openedBytes}
 use Rattle.calls.specs.declared.Answered.{Answered}
@@ -44,6 +44,6 @@ answeredBy line k words out =
     let printed = printedAt (linesFor line words) k out in
     (printed .0, (spaceAfter line k words, printed .1))
 
--- The characters of the longest answer line: `00`, a count and 512 values, and LF.
+-- The characters of the longest answer's line.
 abbrev pub longestAnswer : ℕ
-longestAnswer = 4103
+longestAnswer = charactersOf longestAnswerBytes

@@ -18,9 +18,7 @@ use call_checked::Settled;
 use form_save::Saved;
 use line_put::Written;
 use question::Reply;
-
-// The space holds no table.
-const NO_TABLE: u32 = 14;
+use refusal_number::NO_TABLE;
 
 // "opening 1, 13": any space will do, one that holds a table too.
 pub fn open(space: &mut [u32], line: &[u8]) -> Opened
@@ -80,7 +78,7 @@ pub fn save_line(space: &[u32], line: &[u8], k: usize, out: &mut [u8]) -> Saved
 }
 
 // The characters of the longest answer line, LF included: a list of as many values as a table may have rows.
-pub const LONGEST_ANSWER: usize = 4103;
+pub const LONGEST_ANSWER: usize = 2 * (3 + 4 * meaning::MOST_ROWS as usize) + 1;
 
 // Ties the constant to the laws, which can't name it.
 pub fn longest_answer() -> usize

@@ -16,17 +16,18 @@ use Rattle.line_read.specs.Types.{isOf, refused}
 use Rattle.line_read.specs.Named.{printingRead}
 use Rattle.line_print.specs.Printed.{printed}
 use Rattle.line_decode.specs.Decoding.{bytesOf, typeOf}
-use Rattle.form_write.specs.Forms.{savedForm}
+use Rattle.form_write.specs.Forms.{savedForm, mostFormLines}
 use Rattle.call_question.specs.AnswerBytes.{refusalBytes}
 use Rattle.calls.specs.declared.Answered.{Answered}
 use Rattle.calls.specs.declared.Answered.the-variants as answered
-use Rattle.calls.specs.Answers.{answeredBy, linesFor, printedAt}
+use Rattle.calls.specs.Answers.{answeredBy, linesFor, printedAt, longestAnswer}
 use Rattle.calls.proofs.Counting.{lines-count}
 use Rattle.calls.proofs.Answering.{printing-stays, refused-first, told-end, told-line}
 use Rattle.form_judge.specs.declared.Judged.{Judged}
 use Rattle.form_judge.specs.declared.Judged.the-variants as judged
 use Rattle.form_judge.specs.Judging.{judgedAll, judgedEnd, printing, resavedBy, resavedLines}
 use Rattle.form_judge.proofs.Judging.{closed-is-table}
+use Rattle.call_answer.specs.Answering.{frameRoom}
 
 -- `60` is of type `60`, in its right shape
 printing-type : typeOf printing ≡ 96
@@ -51,7 +52,7 @@ unfolding printedAt
 refuse-later number out zero h = absurd (omega arith)
 refuse-later number out (suc k) h = refl
 
-module _ (number : ℕ) (out : List ℕ) (long : length out ≡ 4103) (k : ℕ) (h : k ≤ 0) (w : Written) (y : List ℕ) (p : (w, y) ≡ printed out refused (number ∷ []) []) where
+module _ (number : ℕ) (out : List ℕ) (long : length out ≡ longestAnswer) (k : ℕ) (h : k ≤ 0) (w : Written) (y : List ℕ) (p : (w, y) ≡ printed out refused (number ∷ []) []) where
   pub refuse-line : (n : ℕ) → w ≡ written.Characters n → (answered.Line n, y) ≡ printedAt (refusalBytes number ∷ []) k out
   refuse-line n e = refused-first number out (omega (arith, long)) k h w y p (answered.Line n) (told-line w n e)
 
@@ -68,7 +69,7 @@ module _ (words out : List ℕ) (k : ℕ) (before : Judged) where
   unfolding resavedBy resavedLines answeredBy
   closed-resaved e r x y p =
       p
-      ∙ ap (λ (s : List ℕ). (printedAt (linesFor printing words) k out .0, (s, printedAt (linesFor printing words) k out .1))) (printing-stays printing words (replicate 149 0) printing-type (omega (arith, length-replicate {A = ℕ} 149 0)) k)
+      ∙ ap (λ (s : List ℕ). (printedAt (linesFor printing words) k out .0, (s, printedAt (linesFor printing words) k out .1))) (printing-stays printing words (replicate frameRoom 0) printing-type (omega (arith, length-replicate {A = ℕ} frameRoom 0)) k)
       ∙ sym (ap (λ (v : Judged). resavedBy v k words out) e)
 
   pub refused-resaved : (number : ℕ) → before ≡ judged.Refused number → (r : Answered) (y : List ℕ) → (r, y) ≡ printedAt (refusalBytes number ∷ []) k out → (r, (words, y)) ≡ resavedBy before k words out
@@ -76,8 +77,8 @@ module _ (words out : List ℕ) (k : ℕ) (before : Judged) where
   refused-resaved number e r y p = ap (λ (q : Answered × List ℕ). (q .0, (words, q .1))) p ∙ sym (ap (λ (v : Judged). resavedBy v k words out) e)
 
 -- there are no more than 562 of them
-pub resaved-count : (verdict : Judged) (words : List ℕ) → length (resavedLines verdict words) ≤ 562
+pub resaved-count : (verdict : Judged) (words : List ℕ) → length (resavedLines verdict words) ≤ mostFormLines
 unfolding resavedLines
-resaved-count judged.Open words = let r : 0 ≤ 562 = omega arith in r
+resaved-count judged.Open words = let r : 0 ≤ mostFormLines = omega arith in r
 resaved-count judged.Closed words = lines-count printing words
-resaved-count (judged.Refused number) words = let r : 1 ≤ 562 = omega arith in r
+resaved-count (judged.Refused number) words = let r : 1 ≤ mostFormLines = omega arith in r

@@ -6,8 +6,8 @@ ghost use Rattle.call_question.specs.AnswerBytes.{refusalBytes};
 ghost use Rattle.form_judge.specs.Judging.{judgedAs, judgedBy, judgedEnd, resavedBy};
 use calls::Answered;
 use form_take::Loaded;
-use form_take::WRONG;
 use line_put::Written;
+use refusal_number::WRONG;
 
 // The line that asks for the form.
 const PRINT: [u8; 3] = [b'6', b'0', line_hex::LF];

@@ -12,14 +12,14 @@ use lib.Dec.{eqb}
 use lib.IntN.{pos}
 use lib.ListN.{length, getD, take, drop, length-map}
 use lib.Seq.{drop-drop, getD-take, getD-drop, take-nil}
-use Rattle.meaning.specs.Operations.{isCounter, isFlag, clears, valueAllowed}
+use Rattle.meaning.specs.Operations.{isCounter, isFlag, clears, valueAllowed, valueLimit, greatestAmount}
 use Rattle.meaning.specs.Rows.{Row}
 use Rattle.meaning.specs.Table.{Table, isTable, kindIn}
 use Rattle.meaning.specs.Questions.{byRows}
 use Rattle.meaning.proofs.Tests.{cases, between-out}
 use Rattle.meaning.proofs.TableFacts.{facts}
 use Rattle.words_layout.specs.Words.{padded, pieces}
-use Rattle.words_layout.specs.Layout.{tableOf, totalWords, rowOf, rowWords, rowsAt, rowWidth, rowsIn, sizeIn, objectsIn, countIn}
+use Rattle.words_layout.specs.Layout.{tableOf, totalWords, rowOf, rowWords, rowsAt, rowWidth, rowsIn, sizeIn, objectsIn, countIn, clockAt, mostRowWords}
 use Rattle.words_layout.proofs.Pieces.{Each, length-pieces}
 use Rattle.words_layout.proofs.Whole.{each-spelt}
 use Rattle.table_rules.specs.Checked.{Checked}
@@ -58,15 +58,15 @@ drop-of-take (suc k) n [] = let e : suc k + n ≡ suc (k + n) = omega arith in r
 drop-of-take (suc k) n (x ∷ l) = let e : suc k + n ≡ suc (k + n) = omega arith in rw e (drop-of-take k n l)
 
 -- "Other values are any 32-bit number"
-value-small : (kind code value : ℕ) → valueAllowed kind code value ≡ true → value < 4294967296
+value-small : (kind code value : ℕ) → valueAllowed kind code value ≡ true → value < valueLimit
 unfolding valueAllowed
 value-small kind code value h = cases (isCounter kind)
-    (λ q. omega (arith, between-out 1 1000000 value (rw q at h) .1))
+    (λ q. omega (arith, between-out 1 greatestAmount value (rw q at h) .1))
     (λ q. let h1 = rw q at h in cases (isFlag kind || eqb code clears)
     (λ p. omega (arith, eqb-true value 0 (rw p at h1)))
-    (λ p. ltb-true value 4294967296 (rw p at h1)))
+    (λ p. ltb-true value valueLimit (rw p at h1)))
 
-pub row-small : (table : Table) → isTable table ≡ true → (r : Row) → List·Memᴰ r (table .rows) → r .operation .value < 4294967296
+pub row-small : (table : Table) → isTable table ≡ true → (r : Row) → List·Memᴰ r (table .rows) → r .operation .value < valueLimit
 row-small table h r m = value-small (kindIn (table .header) (r .operation .object)) (r .operation .code) (r .operation .value) (facts table h .row-facts r m .value-allowed)
 
 -- the lines of a part that stands as it is
@@ -78,10 +78,10 @@ module _ (s out : List ℕ) (n : ℕ) where
   opening-written en r x e = let d : 7 + n - 7 ≡ objectsIn s = omega arith in e ∙ rw d refl
 
   pub clock-written : n ≡ sizeIn s → (r : Written) (x : List ℕ)
-      → (r, x) ≡ printed out clock [] (take (103 + n - 103) (drop 103 s))
+      → (r, x) ≡ printed out clock [] (take (clockAt + n - clockAt) (drop clockAt s))
       → (r, x) ≡ lineWritten out (clockLine (tableOf s .clock))
   unfolding printed clockLine tableOf
-  clock-written en r x e = let d : 103 + n - 103 ≡ sizeIn s = omega arith in e ∙ rw d refl
+  clock-written en r x e = let d : clockAt + n - clockAt ≡ sizeIn s = omega arith in e ∙ rw d refl
 
 pub closing-written : (s out : List ℕ) (r : Written) (x : List ℕ) → (r, x) ≡ printed out closing (getD s 5 0 ∷ []) [] → (r, x) ≡ lineWritten out (closingLine (length (tableOf s .rows)))
 unfolding printed closingLine tableOf
@@ -104,26 +104,26 @@ module _ (s : List ℕ) (K : Checked s) (k n i : ℕ) (h : k < sizeIn s) (en : n
   pub last-ahead-fits : Fits w64 (i * n)
   last-ahead-fits = omega (arith, ahead-small, vectors-small)
 
-  pub last-at-fits : Fits w64 (103 + n + i * n)
+  pub last-at-fits : Fits w64 (clockAt + n + i * n)
   last-at-fits = omega (arith, ahead-small, vectors-small, en, K .few)
 
-  pub last-end-fits : Fits w64 (103 + n + i * n + n)
+  pub last-end-fits : Fits w64 (clockAt + n + i * n + n)
   last-end-fits = omega (arith, ahead-small, vectors-small, en, K .few)
 
-  pub last-at-scaled : Fits w64 ((103 + n + i * n) * 4)
+  pub last-at-scaled : Fits w64 ((clockAt + n + i * n) * 4)
   last-at-scaled = omega (arith, ahead-small, vectors-small, en, K .few)
 
-  pub last-within : 103 + n + i * n + n ≤ length s
+  pub last-within : clockAt + n + i * n + n ≤ length s
   last-within = omega (arith, ahead-small, rw (sym en) at (K .room))
 
-  part-is : take (103 + n + i * n + n - (103 + n + i * n)) (drop (103 + n + i * n) s) ≡ getD (tableOf s .last) k []
+  part-is : take (clockAt + n + i * n + n - (clockAt + n + i * n)) (drop (clockAt + n + i * n) s) ≡ getD (tableOf s .last) k []
   unfolding tableOf
   part-is =
-      let d : 103 + n + i * n + n - (103 + n + i * n) ≡ n = omega arith in
-      rw (d, ei, en) (sym (piece-at (sizeIn s) (sizeIn s) k (drop (103 + sizeIn s) s) h ∙ ap (take (sizeIn s)) (drop-drop (k * sizeIn s) (103 + sizeIn s) s)))
+      let d : clockAt + n + i * n + n - (clockAt + n + i * n) ≡ n = omega arith in
+      rw (d, ei, en) (sym (piece-at (sizeIn s) (sizeIn s) k (drop (clockAt + sizeIn s) s) h ∙ ap (take (sizeIn s)) (drop-drop (k * sizeIn s) (clockAt + sizeIn s) s)))
 
   pub last-written : (out : List ℕ) (r : Written) (x : List ℕ)
-      → (r, x) ≡ printed out lastVector (k ∷ []) (take (103 + n + i * n + n - (103 + n + i * n)) (drop (103 + n + i * n) s))
+      → (r, x) ≡ printed out lastVector (k ∷ []) (take (clockAt + n + i * n + n - (clockAt + n + i * n)) (drop (clockAt + n + i * n) s))
       → (r, x) ≡ lineWritten out (lastLine k (getD (tableOf s .last) k []))
   unfolding printed lastLine
   last-written out r x e = e ∙ ap (λ (vector : List ℕ). printed out lastVector (k ∷ []) vector) part-is
@@ -137,19 +137,19 @@ module _ (s : List ℕ) (K : Checked s) (k : ℕ) (h : k < countIn s) where
     rows-small : i * (7 + n) + (7 + n) ≤ countIn s * (7 + n)
     rows-small = let m : suc i * (7 + n) ≤ countIn s * (7 + n) = mul-le-mul-right (7 + n) (omega arith) in omega (arith, suc-mul i (7 + n))
 
-    area : countIn s * (7 + n) ≤ 11776
+    area : countIn s * (7 + n) ≤ mostRowWords
     area = rw en (K .area)
 
     pub ahead-fits : Fits w64 (i * (7 + n))
     ahead-fits = omega (arith, rows-small, area)
 
-    pub row-at-fits : Fits w64 (103 + n + n * n + i * (7 + n))
+    pub row-at-fits : Fits w64 (clockAt + n + n * n + i * (7 + n))
     row-at-fits = omega (arith, rows-small, area, square-small, K .few, en)
 
-    pub row-at-is : 103 + n + n * n + i * (7 + n) ≡ rowsAt (sizeIn s) + k * rowWidth (sizeIn s)
+    pub row-at-is : clockAt + n + n * n + i * (7 + n) ≡ rowsAt (sizeIn s) + k * rowWidth (sizeIn s)
     row-at-is = rw (en, ei) refl
 
-    pub row-at-room : 103 + n + n * n + i * (7 + n) + rowWidth (sizeIn s) ≤ length s
+    pub row-at-room : clockAt + n + n * n + i * (7 + n) + rowWidth (sizeIn s) ≤ length s
     row-at-room = omega (arith, rows-small, rw (sym en) at (K .room), en)
 
   -- the words of the row
@@ -168,7 +168,7 @@ module _ (s : List ℕ) (K : Checked s) (k : ℕ) (h : k < countIn s) where
   spelt : rowWords (sizeIn s) (rowOf words) ≡ words
   spelt = (rw words-are at (each-at (λ (ws : List ℕ). rowWords (sizeIn s) (rowOf ws) ≡ ws) (rowsIn s) (each-spelt s (K .laid)) k [] many))
 
-  value-limit : rowOf words .operation .value < 4294967296
+  value-limit : rowOf words .operation .value < valueLimit
   unfolding tableOf
   value-limit = (rw words-are at (row-small (tableOf s) (K .by-rules) (rowOf (getD (rowsIn s) k [])) (member-at rowOf (rowsIn s) k [] many)))
 

@@ -27,11 +27,6 @@ use words_layout::VECTOR_AT;
 use words_tags::RowCount;
 use words_tags::Station;
 
-// "01 settled or 00".
-const SETTLED: u32 = 1;
-
-const UNSETTLED: u32 = 0;
-
 // `10`, from the head and the kinds.
 pub fn write_opening(space: &[u32], out: &mut [u8]) -> Written
     requires { ⌜ Checked (now space) ⌝ }
@@ -78,9 +73,9 @@ fn settled_byte(unsettled: u32) -> u32
     ensures { λ r. ⌜ r ≡ cond (eqb unsettled 0) 1 0 ⌝ }
 {
     if unsettled == 0 {
-        return SETTLED;
+        return line_read::SETTLED_BYTE;
     }
-    UNSETTLED
+    line_read::UNSETTLED_BYTE
 }
 
 // Where the row behind so many others starts.

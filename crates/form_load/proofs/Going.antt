@@ -12,11 +12,11 @@ use lib.Seq.{drop-at, drop-set-lt, getD-set-other, getD-set-same, getD-take, len
 use Rattle.meaning.specs.Tests.{between, every}
 use Rattle.meaning.specs.Operations.{isCounter}
 use Rattle.meaning.proofs.Tests.{and-left, and-right, cases, rule-at}
-use Rattle.meaning.specs.Table.{Header, headerRules, inRange, opened, totalBound}
+use Rattle.meaning.specs.Table.{Header, headerRules, inRange, opened, totalBound, greatestSize, mostObjects}
 use Rattle.meaning.specs.Refusals.{firstOf, openingRefusals}
 use Rattle.meaning.specs.Calls as meaning
 use Rattle.meaning.proofs.TableFacts.{HeaderFacts, header-facts}
-use Rattle.words_layout.specs.Layout.{capacityIn, countIn, holdsTable, lastAt, objectsIn, ownIn, sizeIn, spaceFor, tableMark, totalOfWords, wordsOf}
+use Rattle.words_layout.specs.Layout.{capacityIn, countIn, holdsTable, lastAt, objectsIn, ownIn, sizeIn, spaceFor, tableMark, totalOfWords, wordsOf, clockAt, totalsAt}
 use Rattle.table_opening.proofs.Laying.{fresh-words}
 use Rattle.table_rules.specs.TableTests.{clockIn, kindsIn, sizesKept}
 use Rattle.table_rules.proofs.Heading.{Sizes, sizes-in, sizes-out}
@@ -46,14 +46,14 @@ use Rattle.form_load.specs.Loading.{begun, behindLasts, firstTaken, head
 use Rattle.form_load.proofs.Nexts.{load-head, load-object, load-station, load-waits}
 
 -- words in front of a place stay
-module _ (s new : List ℕ) (at i a : ℕ) (far : 39 ≤ at) (room : at + length new ≤ length s) where
+module _ (s new : List ℕ) (at i a : ℕ) (far : totalsAt ≤ at) (room : at + length new ≤ length s) where
   abbrev put : List ℕ
   put = paste s at new (length new)
 
   apart : put ≡ take at s ++ (take (length new) new ++ drop (at + length new) s)
   apart = append-assoc (take at s) (take (length new) new) (drop (at + length new) s)
 
-  put-word : (k : ℕ) → k < 39 → getD put k 0 ≡ getD s k 0
+  put-word : (k : ℕ) → k < totalsAt → getD put k 0 ≡ getD s k 0
   put-word k h =
       let front : length (take at s) ≡ at = length-take-le at s (omega (arith, room)) in
       ap (λ (l : List ℕ). getD l k 0) apart ∙ List·getD-append (take at s) (take (length new) new ++ drop (at + length new) s) 0 k (omega (arith, front)) ∙ getD-take at s k 0 (omega (arith, far))
@@ -61,12 +61,12 @@ module _ (s new : List ℕ) (at i a : ℕ) (far : 39 ≤ at) (room : at + length
   put-long : length put ≡ length s
   put-long = length-paste s at new (length new) room (omega arith)
 
-  front-part : (l : List ℕ) (o : ℕ) → 39 ≤ length l → o ≤ 32 → drop 7 (take (7 + o) l) ≡ take o (drop 7 l)
+  front-part : (l : List ℕ) (o : ℕ) → totalsAt ≤ length l → o ≤ mostObjects → drop 7 (take (7 + o) l) ≡ take o (drop 7 l)
   front-part l o h m =
       let seven : length (take 7 l) ≡ 7 = length-take-le 7 l (omega (arith, h)) in
       ap (drop 7) (take-add 7 o l) ∙ drop-at (take 7 l) (take o (drop 7 l)) 7 seven
 
-  put-kinds : (o : ℕ) → o ≤ 32 → take o (drop 7 put) ≡ take o (drop 7 s)
+  put-kinds : (o : ℕ) → o ≤ mostObjects → take o (drop 7 put) ≡ take o (drop 7 s)
   put-kinds o m =
       let front : length (take at s) ≡ at = length-take-le at s (omega (arith, room)) in
       let same : take (7 + o) put ≡ take (7 + o) s = ap (take (7 + o)) apart ∙ take-append-le (7 + o) (take at s) (take (length new) new ++ drop (at + length new) s) (omega (arith, front, far)) ∙ take-take (7 + o) at s (omega (arith, far)) in
@@ -75,16 +75,16 @@ module _ (s new : List ℕ) (at i a : ℕ) (far : 39 ≤ at) (room : at + length
   abbrev marked : List ℕ
   marked = set put i a
 
-  pub marked-word : (k : ℕ) → k < 39 → (k ≡ i → ⊥) → getD marked k 0 ≡ getD s k 0
+  pub marked-word : (k : ℕ) → k < totalsAt → (k ≡ i → ⊥) → getD marked k 0 ≡ getD s k 0
   marked-word k h d = getD-set-other put i k a 0 d ∙ put-word k h
 
-  pub marked-there : i < 39 → getD marked i 0 ≡ a
+  pub marked-there : i < totalsAt → getD marked i 0 ≡ a
   marked-there h = getD-set-same put i a 0 (omega (arith, put-long, room, far))
 
   pub marked-long : length marked ≡ length s
   marked-long = length-set put i a ∙ put-long
 
-  pub marked-kinds : i < 7 → (o : ℕ) → o ≤ 32 → take o (drop 7 marked) ≡ take o (drop 7 s)
+  pub marked-kinds : i < 7 → (o : ℕ) → o ≤ mostObjects → take o (drop 7 marked) ≡ take o (drop 7 s)
   marked-kinds h o m = ap (take o) (drop-set-lt 7 put i a h) ∙ put-kinds o m
 
 -- the line behind one that was taken
@@ -179,7 +179,7 @@ module _ (s : List ℕ) (u : underLoad s ≡ true) where
       rw (e0, e1, e2, e3, e4, long, kinds, eq-eqb (getD s 0 0) tableMark mark, sizes-in (sizeIn s) (ownIn s) (capacityIn s) (objectsIn s) (countIn x) Z, le-leb (spaceFor (sizeIn s) (capacityIn s)) (length s) (H .room), kinds-known) w
 
   -- D, a last vector or a total was taken
-  took-on : Ready (nextIn s) → (at : ℕ) (new : List ℕ) → 39 ≤ at → at + length new ≤ length s → underLoad (set (paste s at new (length new)) 6 (suc (progressIn s))) ≡ true
+  took-on : Ready (nextIn s) → (at : ℕ) (new : List ℕ) → totalsAt ≤ at → at + length new ≤ length s → underLoad (set (paste s at new (length new)) 6 (suc (progressIn s))) ≡ true
   unfolding nextIn
   took-on r at new far room =
       let x : List ℕ = set (paste s at new (length new)) 6 (suc (progressIn s)) in
@@ -193,7 +193,7 @@ module _ (s : List ℕ) (u : underLoad s ≡ true) where
       (rw (rows, p) (step (sizeIn s) (ownIn s) (kindsIn s) (progressIn s) (H .some) r))
 
   -- a row was taken
-  joined-on : nextIn s ≡ next.Rows → (at : ℕ) (row : List ℕ) → 39 ≤ at → at + length row ≤ length s → countIn s < capacityIn s → underLoad (set (paste s at row (length row)) 5 (suc (countIn s))) ≡ true
+  joined-on : nextIn s ≡ next.Rows → (at : ℕ) (row : List ℕ) → totalsAt ≤ at → at + length row ≤ length s → countIn s < capacityIn s → underLoad (set (paste s at row (length row)) 5 (suc (countIn s))) ≡ true
   unfolding nextIn waits
   joined-on e at row far room h =
       let x : List ℕ = set (paste s at row (length row)) 5 (suc (countIn s)) in
@@ -224,11 +224,11 @@ module _ (s : List ℕ) (u : underLoad s ≡ true) where
   unfolding finished
   finished-on = either-on (holdsTable (set s 6 0)) (loaded.Table, set s 6 0) (spoilt s) (λ t. tt) spoilt-on
 
-  took-or-on : Ready (nextIn s) → (b : Bool) (at : ℕ) (new : List ℕ) → 39 ≤ at → (b ≡ true → at + length new ≤ length s) → GoesOn (pick b (took s at new) (spoilt s))
+  took-or-on : Ready (nextIn s) → (b : Bool) (at : ℕ) (new : List ℕ) → totalsAt ≤ at → (b ≡ true → at + length new ≤ length s) → GoesOn (pick b (took s at new) (spoilt s))
   unfolding took
   took-or-on r b at new far room = either-on b (took s at new) (spoilt s) (λ t. took-on s u r at new far (room t)) spoilt-on
 
-  row-on : nextIn s ≡ next.Rows → (f : Row) → length (f .vector) ≡ 16 → GoesOn (rowTaken f s)
+  row-on : nextIn s ≡ next.Rows → (f : Row) → length (f .vector) ≡ greatestSize → GoesOn (rowTaken f s)
   unfolding rowTaken joined joins rowSaid
   row-on e f long =
       let row = rowSaid (sizeIn s) f in
@@ -245,7 +245,7 @@ module _ (s : List ℕ) (u : underLoad s ≡ true) where
   line-on next.Clock e bytes =
       let f = clockRead (sizeIn s) bytes in
       let H₀ : LoadHead s = load-head s u in
-      took-or-on (subst Ready e tt) (f .ok) 103 (take (sizeIn s) (f .vector)) (omega arith)
+      took-or-on (subst Ready e tt) (f .ok) clockAt (take (sizeIn s) (f .vector)) (omega arith)
       (λ t. omega (arith, H₀ .room, length-take-le (sizeIn s) (f .vector) (omega (arith, clock-vector bytes (sizeIn s) f refl, H₀ .few))))
   line-on (next.Last station) e bytes =
       let f = lastRead (sizeIn s) bytes in
@@ -260,7 +260,7 @@ module _ (s : List ℕ) (u : underLoad s ≡ true) where
       let total : List ℕ = f .high ∷ f .low ∷ [] in
       let H₀ : LoadHead s = load-head s u in
       let below : object < objectsIn s = load-object s u (next.Total object) e object refl in
-      took-or-on (subst Ready e tt) (f .ok && (eqb (f .object) object && totalKept (totalBound (clockIn s)) (getD (kindsIn s) object 0) (totalOfWords total))) (39 + object * 2) total (omega arith)
+      took-or-on (subst Ready e tt) (f .ok && (eqb (f .object) object && totalKept (totalBound (clockIn s)) (getD (kindsIn s) object 0) (totalOfWords total))) (totalsAt + object * 2) total (omega arith)
       (λ t. omega (arith, H₀ .long, H₀ .objects, below))
   line-on next.Rows e bytes =
       let f = rowRead (sizeIn s) bytes in

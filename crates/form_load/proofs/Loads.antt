@@ -26,6 +26,7 @@ use Rattle.form_take.proofs.Words.{passed, picked}
 use Rattle.form_load.specs.declared.Next.{Next}
 use Rattle.form_load.specs.declared.Next.the-variants as next
 use Rattle.form_load.specs.Loading.{begun, firstTaken, loadEnded, loadedBy, nextIn, savedType, takenAs, underLoad}
+use Rattle.line_read.specs.Types.{longest}
 
 -- by what comes next
 module _ (s bytes : List ℕ) (n : Next) (e : n ≡ nextIn s) (r : Loaded) (x : List ℕ) where
@@ -52,7 +53,7 @@ module _ (s bytes : List ℕ) (n : Next) (e : n ≡ nextIn s) (r : Loaded) (x : 
   unfolding takenAs
   takes-nothing h g = as-next next.Nothing h g
 
-pub takes-heard : (s line buffer : List ℕ) → length buffer ≡ 261 → (n : ℕ) (y : List ℕ) → (n, y) ≡ decodedInto line buffer → (r : Loaded) (x : List ℕ) → (r, x) ≡ takenAs (nextIn s) (take (n - 0) y) s → (r, x) ≡ takenAs (nextIn s) (bytesOf line) s
+pub takes-heard : (s line buffer : List ℕ) → length buffer ≡ longest → (n : ℕ) (y : List ℕ) → (n, y) ≡ decodedInto line buffer → (r : Loaded) (x : List ℕ) → (r, x) ≡ takenAs (nextIn s) (take (n - 0) y) s → (r, x) ≡ takenAs (nextIn s) (bytesOf line) s
 takes-heard s line buffer long n y h r x g = g ∙ ap (λ (b : List ℕ). takenAs (nextIn s) b s) (heard-front line buffer long n y h)
 
 -- an opening lays a head of seven words

@@ -12,7 +12,7 @@ use lib.Seq.{length-take-le}
 use Rattle.meaning.specs.Tests.{between, every}
 use Rattle.meaning.specs.Operations.{isCounter}
 use Rattle.meaning.proofs.Tests.{and-left, and-right, cases, clash, fails}
-use Rattle.words_layout.specs.Layout.{capacityIn, countIn, objectsIn, ownIn, sizeIn, spaceFor, tableMark}
+use Rattle.words_layout.specs.Layout.{capacityIn, countIn, objectsIn, ownIn, sizeIn, spaceFor, tableMark, clockAt}
 use Rattle.table_rules.specs.TableTests.{kindsIn, sizesKept}
 use Rattle.table_rules.proofs.Heading.{sizes-out}
 use Rattle.words_tags.specs.declared.Station.{Station}
@@ -22,7 +22,7 @@ use Rattle.form_write.specs.Seeking.{counterAt, otherAt}
 use Rattle.form_write.proofs.Places.{counter-below, other-below}
 use Rattle.form_row.specs.LoadHead.{LoadHead}
 use Rattle.form_row.proofs.Joining.{part-of, second-fails}
-use Rattle.form_take.specs.Taking.{progressIn}
+use Rattle.form_take.specs.Taking.{progressIn, mostProgress}
 use Rattle.form_load.specs.declared.Next.{Next}
 use Rattle.form_load.specs.declared.Next.the-variants as next
 use Rattle.form_load.specs.Loading.{behindLasts, headLoads, loadWaits, nextAfter, nextIn, underLoad, waits}
@@ -139,7 +139,7 @@ module _ (s : List ℕ) (o : ℕ) (eo : o ≡ getD s 4 0) (r : Bool) (e : r ≡ 
 
 -- under load
 module _ (s : List ℕ) where
-  pub under-short : length s < 103 → false ≡ underLoad s
+  pub under-short : length s < clockAt → false ≡ underLoad s
   unfolding underLoad
   under-short h = rw (fails (headLoads s) (λ t. absurd (omega (arith, head-facts s t .long)))) refl
 
@@ -207,17 +207,17 @@ module _ (s : List ℕ) (u : underLoad s ≡ true) where
   kinds-long : length (kindsIn s) ≡ objectsIn s
   kinds-long = length-take-le (objectsIn s) (drop 7 s) (simp length-drop (omega (arith, load-head .long, load-head .objects)))
 
-  far : 49 < getD s 6 0 → nextIn s ≡ next.Nothing
+  far : mostProgress < getD s 6 0 → nextIn s ≡ next.Nothing
   unfolding nextIn nextAfter
   far h =
       let H = load-head in
       rw (ne-eqb (getD s 6 0) 0 (λ z. absurd (omega arith)), ne-eqb (getD s 6 0) 1 (λ z. absurd (omega arith)), lt-leb (getD s 6 0) (getD s 1 0) (omega (arith, H .few)))
       (behind-all (kindsIn s) 0 (getD s 6 0 - suc (getD s 1 0)) (omega (arith, kinds-long, H .few, H .objects)))
 
-  pub load-early : progressIn s ≤ 49
+  pub load-early : progressIn s ≤ mostProgress
   unfolding waits
-  load-early = cases (leb (getD s 6 0) 49) (λ t. leb-true (getD s 6 0) 49 t)
-      (λ t. clash (waits (nextIn s) (countIn s)) load-waits (ap (λ (k : Next). waits k (countIn s)) (far (leb-false (getD s 6 0) 49 t))))
+  load-early = cases (leb (getD s 6 0) mostProgress) (λ t. leb-true (getD s 6 0) mostProgress t)
+      (λ t. clash (waits (nextIn s) (countIn s)) load-waits (ap (λ (k : Next). waits k (countIn s)) (far (leb-false (getD s 6 0) mostProgress t))))
 
   placed : Placed (sizeIn s) (objectsIn s) (nextIn s)
   unfolding nextIn

@@ -8,7 +8,7 @@ use lib.ListN.{getD, length, replicate, set, take}
 use Rattle.meaning.specs.Table.{totalBound}
 use Rattle.meaning.specs.Calls as meaning
 use Rattle.meaning.proofs.Tests.{cases, clash, fails}
-use Rattle.words_layout.specs.Layout.{countIn, holdsTable, lastAt, ownIn, sizeIn, spaceFor, totalOfWords}
+use Rattle.words_layout.specs.Layout.{countIn, holdsTable, lastAt, ownIn, sizeIn, spaceFor, totalOfWords, clockAt, totalsAt}
 use Rattle.table_rules.specs.TableTests.{clockIn, kindsIn}
 use Rattle.table_rules.proofs.Holding.{table-headed}
 use Rattle.table_rules_clock.specs.ClockTests.{lastKept, totalKept}
@@ -73,7 +73,7 @@ module _ (s : List ℕ) where
   unfolding takenAs clockTaken lastTaken totalTaken rowOrClosing
   line-kept next.Clock bytes =
       let f = clockRead (sizeIn s) bytes in
-      took-or-spoilt (f .ok) 103 (take (sizeIn s) (f .vector))
+      took-or-spoilt (f .ok) clockAt (take (sizeIn s) (f .vector))
   line-kept (next.Last station) bytes =
       let f = lastRead (sizeIn s) bytes in
       let vector = take (sizeIn s) (f .vector) in
@@ -81,7 +81,7 @@ module _ (s : List ℕ) where
   line-kept (next.Total object) bytes =
       let f = totalRead bytes in
       let total : List ℕ = f .high ∷ f .low ∷ [] in
-      took-or-spoilt (f .ok && (eqb (f .object) object && totalKept (totalBound (clockIn s)) (getD (kindsIn s) object 0) (totalOfWords total))) (39 + object * 2) total
+      took-or-spoilt (f .ok && (eqb (f .object) object && totalKept (totalBound (clockIn s)) (getD (kindsIn s) object 0) (totalOfWords total))) (totalsAt + object * 2) total
   line-kept next.Rows bytes =
       let f = rowRead (sizeIn s) bytes in
       either (f .ok) (rowTaken f s) (closed bytes s) (row-kept f) (closed-kept bytes)

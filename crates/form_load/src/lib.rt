@@ -8,12 +8,11 @@ ghost use Rattle.line_decode.specs.Decoding.{bytesOf};
 ghost use Rattle.call_checked.specs.Called.{openedBy};
 ghost use Rattle.form_row.specs.LoadHead.{LoadHead};
 ghost use Rattle.form_load.specs.Loading.{begun, behindLasts, firstTaken, headLoads, loadEnded, loadWaits, loadedBy, nextIn, takenAs, underLoad, waits};
-use call_checked::MISSHAPEN;
 use call_checked::Opened;
 use form_take::Loaded;
-use form_take::WRONG;
 use form_write::Sought;
-use table_ranges::GREATEST_KIND;
+use refusal_number::MISSHAPEN;
+use refusal_number::WRONG;
 use words_layout::CAPACITY_AT;
 use words_layout::CLOCK_AT;
 use words_layout::COUNT_AT;
@@ -115,7 +114,7 @@ fn load_waits(space: &[u32]) -> bool
     ensures { λ r. ⌜ r ≡ loadWaits (now (space .entry)) ⌝ }
 {
     let end = KINDS_AT + words_tags::wide(space[OBJECTS_AT]);
-    if table_rules::all_in_range(&space[KINDS_AT..end], 1, GREATEST_KIND) {
+    if table_rules::all_in_range(&space[KINDS_AT..end], 1, meaning::GREATEST_KIND) {
         return waits_for(next_in(space), RowCount(space[COUNT_AT]));
     }
     false

@@ -10,7 +10,7 @@ use lib.Dec.{eqb, ltb}
 use lib.ListN.{drop, getD, length, replicate, set, take, take-append-drop}
 use lib.Seq.{length-take-le, paste, take-all, take-at}
 use Rattle.meaning.proofs.Tests.{and-left}
-use Rattle.words_layout.specs.Layout.{capacityIn, countIn, spaceFor}
+use Rattle.words_layout.specs.Layout.{capacityIn, countIn, spaceFor, clockAt, rowWidth}
 use Rattle.table_rules.specs.TableTests.{clockIn, kindsIn}
 use Rattle.table_rules_rows.specs.RowTests.{follows, rowKept}
 use Rattle.table_rules_rows.proofs.Chaining.{by-keys}
@@ -18,6 +18,7 @@ use Rattle.line_hex.specs.Choice.{pick}
 use Rattle.line_read.specs.declared.Row.{Row}
 use Rattle.form_row.specs.LoadHead.{LoadHead}
 use Rattle.form_row.specs.Joining.{joined, joins, lastRow, rowSaid}
+use Rattle.meaning.specs.Table.{greatestSize}
 
 -- tests one after the other
 pub second-fails : (a b c : Bool) → b ≡ false → (a && (b && c)) ≡ false
@@ -34,16 +35,16 @@ pub part-of : (s : List ℕ) (at n m : ℕ) → n ≡ m → take (at + n - at) (
 part-of s at n m e = let q : at + n - at ≡ m = omega arith in ap (λ (k : ℕ). take k (drop at s)) q
 
 -- the words of a row
-pub row-made : (f : Row) (size number : ℕ) (y x : List ℕ) → length (f .vector) ≡ 16 → number ≡ getD (take (size - 0) (f .vector)) (f .sender) 0
-    → y ≡ paste (replicate 23 0) 0 (f .object ∷ 0 ∷ f .value ∷ f .code ∷ (1 - f .settled) ∷ f .sender ∷ number ∷ []) 7
+pub row-made : (f : Row) (size number : ℕ) (y x : List ℕ) → length (f .vector) ≡ greatestSize → number ≡ getD (take (size - 0) (f .vector)) (f .sender) 0
+    → y ≡ paste (replicate (rowWidth greatestSize) 0) 0 (f .object ∷ 0 ∷ f .value ∷ f .code ∷ (1 - f .settled) ∷ f .sender ∷ number ∷ []) 7
     → x ≡ paste y 7 (f .vector) (length (f .vector)) → x ≡ rowSaid size f ++ drop size (f .vector)
 unfolding rowSaid
 row-made f size number y x long e g h =
     let z : size - 0 ≡ size = omega arith in
-    let whole : take 16 (f .vector) ++ [] ≡ take size (f .vector) ++ drop size (f .vector) = no-more (take 16 (f .vector)) ∙ take-all 16 (f .vector) (omega (arith, long)) ∙ sym (take-append-drop size (f .vector)) in
+    let whole : take greatestSize (f .vector) ++ [] ≡ take size (f .vector) ++ drop size (f .vector) = no-more (take greatestSize (f .vector)) ∙ take-all greatestSize (f .vector) (omega (arith, long)) ∙ sym (take-append-drop size (f .vector)) in
     h ∙ rw (long, g, whole, e, z) refl
 
-module _ (f : Row) (n : ℕ) (row : List ℕ) (e : row ≡ rowSaid n f ++ drop n (f .vector)) (long : length (f .vector) ≡ 16) (few : n ≤ 16) where
+module _ (f : Row) (n : ℕ) (row : List ℕ) (e : row ≡ rowSaid n f ++ drop n (f .vector)) (long : length (f .vector) ≡ greatestSize) (few : n ≤ greatestSize) where
   said-long : length (rowSaid n f) ≡ 7 + n
   unfolding rowSaid
   said-long = omega (arith, length-take-le n (f .vector) (omega (arith, long)))
@@ -60,9 +61,9 @@ module _ (s row : List ℕ) where
   unfolding joins
   join-full h = rw (le-ltb (getD s 5 0) (getD s 3 0) h) refl
 
-  module _ (o n : ℕ) (eo : o ≡ getD s 4 0) (en : n ≡ getD s 1 0) (t : Bool) (q : t ≡ rowKept (take (7 + o - 7) (drop 7 s)) (take (103 + n - 103) (drop 103 s)) row) where
+  module _ (o n : ℕ) (eo : o ≡ getD s 4 0) (en : n ≡ getD s 1 0) (t : Bool) (q : t ≡ rowKept (take (7 + o - 7) (drop 7 s)) (take (clockAt + n - clockAt) (drop clockAt s)) row) where
     kept : t ≡ rowKept (kindsIn s) (clockIn s) row
-    kept = q ∙ rw (part-of s 7 o (getD s 4 0) eo, part-of s 103 n (getD s 1 0) en) refl
+    kept = q ∙ rw (part-of s 7 o (getD s 4 0) eo, part-of s clockAt n (getD s 1 0) en) refl
 
     pub join-unruly : t ≡ false → false ≡ joins s row
     unfolding joins

@@ -6,6 +6,7 @@ ghost use lib.ListN.{drop, length};
 ghost use Rattle.words_layout.specs.Layout.{capacityIn, countIn, rowWidth, sizeIn};
 ghost use Rattle.form_row.specs.LoadHead.{LoadHead};
 ghost use Rattle.form_row.specs.Joining.{joined, joins, rowSaid};
+ghost use Rattle.meaning.specs.Table.{greatestSize};
 use line_read::Row;
 use words_layout::CAPACITY_AT;
 use words_layout::CLOCK_AT;
@@ -17,23 +18,17 @@ use words_layout::SIZE_AT;
 use words_tags::RowCount;
 use words_tags::Station;
 
-// The settled byte of a settled row, above which there is none.
-pub const SETTLED: u32 = 1;
-
 // The high word of a value.
 const HIGH: u32 = 0;
 
-// The words of a row of the largest group.
-pub const WIDEST: usize = 23;
-
 // The words of the row that a line says; behind them stands what its array has beyond the group's entries.
-pub fn row_words(f: Row, size: usize) -> [u32; WIDEST]
-    requires { ⌜ (length (f .vector) ≡ 16) × (f .settled ≤ 1) × (size ≤ 16) ⌝ }
+pub fn row_words(f: Row, size: usize) -> [u32; words_layout::WIDEST]
+    requires { ⌜ (length (f .vector) ≡ greatestSize) × (f .settled ≤ 1) × (size ≤ greatestSize) ⌝ }
     ensures { λ r. ⌜ r ≡ rowSaid size f ++ drop size (f .vector) ⌝ }
 {
     let vector = f.vector;
     let number = words_tags::number_at(&vector[0..size], Station(f.sender));
-    let unsettled = SETTLED - f.settled;
+    let unsettled = line_read::SETTLED_BYTE - f.settled;
     let key = [
         f.object,
         HIGH,
@@ -43,7 +38,7 @@ pub fn row_words(f: Row, size: usize) -> [u32; WIDEST]
         f.sender,
         number.0,
     ];
-    let mut row = [0u32; WIDEST];
+    let mut row = [0u32; words_layout::WIDEST];
     words_moves::put(&mut row, 0, &key);
     words_moves::put(&mut row, KEY, &vector);
     row

@@ -5,12 +5,8 @@ ghost use Rattle.table_rules.specs.Checked.{Checked};
 ghost use Rattle.form_write.specs.Forms.{lineAt, savedForm};
 ghost use Rattle.form_save.specs.Saving.{savedAs, savedOn};
 use form_write::Formed;
-
-// The line is not of the type and shape of a `60` line.
-const MISSHAPEN: u32 = 1;
-
-// The line space is shorter than the line.
-const NO_ROOM: u32 = 10;
+use refusal_number::MISSHAPEN;
+use refusal_number::NO_ROOM;
 
 // What saving gets: a refusal's number, how many characters the form's line has in the lent space, or that the form has no line there.
 pub enum Saved {

@@ -20,6 +20,7 @@ use Rattle.form_take.specs.declared.Loaded.{Loaded}
 use Rattle.form_take.specs.declared.Loaded.the-variants as loaded
 use Rattle.form_take.specs.Taking.{closed, finished, rowOrClosing, rowTaken, spoilt}
 use Rattle.form_take.proofs.Words.{passed, picked}
+use Rattle.meaning.specs.Table.{greatestSize}
 
 -- a row's line
 module _ (s : List ℕ) (f : Row) where
@@ -33,7 +34,7 @@ module _ (s : List ℕ) (f : Row) where
   pub row-misshapen : 1 < f .settled → (r : Loaded) (x : List ℕ) → (r, x) ≡ spoilt s → (r, x) ≡ rowTaken f s
   row-misshapen h r x g = g ∙ row-spoilt (rw (lt-leb (f .settled) 1 h) refl)
 
-  module _ (H : LoadHead s) (long : length (f .vector) ≡ 16) (n : ℕ) (en : n ≡ getD s 1 0) (row : List ℕ) (e : row ≡ rowSaid n f ++ drop n (f .vector)) where
+  module _ (H : LoadHead s) (long : length (f .vector) ≡ greatestSize) (n : ℕ) (en : n ≡ getD s 1 0) (row : List ℕ) (e : row ≡ rowSaid n f ++ drop n (f .vector)) where
     said : take (7 + n - 0) row ≡ rowSaid (sizeIn s) f
     said = row-part f n row e long (omega (arith, en, H .few)) ∙ ap (λ (k : ℕ). rowSaid k f) en
 

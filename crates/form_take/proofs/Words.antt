@@ -13,7 +13,7 @@ use lib.ListN.{drop, getD, length, replicate, set, take}
 use lib.Seq.{drop-length, getD-drop, getD-take, length-take-le, paste}
 use Rattle.meaning.specs.Table.{totalBound}
 use Rattle.words_layout.specs.Words.{ofComplement, ofTwoWords}
-use Rattle.words_layout.specs.Layout.{objectsIn, sizeIn}
+use Rattle.words_layout.specs.Layout.{objectsIn, sizeIn, clockAt, totalsAt}
 use Rattle.table_rules.specs.TableTests.{clockIn, kindsIn}
 use Rattle.table_rules_clock.specs.ClockTests.{lastKept, totalKept}
 use Rattle.line_hex.specs.Choice.{pick}
@@ -60,7 +60,7 @@ words-taken s new x at e =
 -- D
 module _ (s bytes : List ℕ) (n : ℕ) (e : n ≡ getD s 1 0) (f : Clock) (h : f ≡ clockRead n bytes) where
   abbrev clock-way : Clock → Loaded × List ℕ
-  clock-way q = pick (q .ok) (took s 103 (take (sizeIn s) (q .vector))) (spoilt s)
+  clock-way q = pick (q .ok) (took s clockAt (take (sizeIn s) (q .vector))) (spoilt s)
 
   clock-read : f ≡ clockRead (sizeIn s) bytes
   clock-read = h ∙ ap (λ (k : ℕ). clockRead k bytes) e
@@ -72,13 +72,13 @@ module _ (s bytes : List ℕ) (n : ℕ) (e : n ≡ getD s 1 0) (f : Clock) (h : 
   pub clock-room : LoadHead s → n ≤ length (f .vector)
   clock-room H = omega (arith, clock-vector bytes n f h, H .few)
 
-  pub clock-right : f .ok ≡ true → (r : Loaded) (x : List ℕ) → (r, x) ≡ took s 103 (take (n - 0) (f .vector)) → (r, x) ≡ clockTaken bytes s
+  pub clock-right : f .ok ≡ true → (r : Loaded) (x : List ℕ) → (r, x) ≡ took s clockAt (take (n - 0) (f .vector)) → (r, x) ≡ clockTaken bytes s
   clock-right ok r x g =
       let z : n - 0 ≡ sizeIn s = omega arith in
-      g ∙ ap (λ (k : ℕ). took s 103 (take k (f .vector))) z ∙ sym (picked (f .ok) (took s 103 (take (sizeIn s) (f .vector))) (spoilt s) ok) ∙ clock-is
+      g ∙ ap (λ (k : ℕ). took s clockAt (take k (f .vector))) z ∙ sym (picked (f .ok) (took s clockAt (take (sizeIn s) (f .vector))) (spoilt s) ok) ∙ clock-is
 
   pub clock-wrong : f .ok ≡ false → (r : Loaded) (x : List ℕ) → (r, x) ≡ spoilt s → (r, x) ≡ clockTaken bytes s
-  clock-wrong ok r x g = g ∙ sym (passed (f .ok) (took s 103 (take (sizeIn s) (f .vector))) (spoilt s) ok) ∙ clock-is
+  clock-wrong ok r x g = g ∙ sym (passed (f .ok) (took s clockAt (take (sizeIn s) (f .vector))) (spoilt s) ok) ∙ clock-is
 
 -- a last vector
 module _ (s bytes : List ℕ) (station n : ℕ) (e : n ≡ getD s 1 0) (f : LastVector) (h : f ≡ lastRead n bytes) where
@@ -86,7 +86,7 @@ module _ (s bytes : List ℕ) (station n : ℕ) (e : n ≡ getD s 1 0) (f : Last
   last-test q = lastKept (getD s 2 0) (clockIn s) station (take (sizeIn s) (q .vector))
 
   abbrev last-taken : LastVector → Loaded × List ℕ
-  last-taken q = took s (103 + sizeIn s + station * sizeIn s) (take (sizeIn s) (q .vector))
+  last-taken q = took s (clockAt + sizeIn s + station * sizeIn s) (take (sizeIn s) (q .vector))
 
   abbrev last-way : LastVector → Loaded × List ℕ
   last-way q = pick (q .ok && (eqb (q .station) station && last-test q)) (last-taken q) (spoilt s)
@@ -119,24 +119,24 @@ module _ (s bytes : List ℕ) (station n : ℕ) (e : n ≡ getD s 1 0) (f : Last
       pub last-offset : Fits w64 (w * n)
       last-offset = omega (arith, last-area, H .square)
 
-      pub last-start : Fits w64 (103 + n + w * n)
+      pub last-start : Fits w64 (clockAt + n + w * n)
       last-start = omega (arith, last-area, H .square, H .few)
 
-      pub last-fits : 103 + n + w * n + length (take (n - 0) (f .vector)) ≤ length s
+      pub last-fits : clockAt + n + w * n + length (take (n - 0) (f .vector)) ≤ length s
       last-fits =
           let z : n - 0 ≡ n = omega arith in
           let long : length (take n (f .vector)) ≡ n = length-take-le n (f .vector) last-room in
           rw (z, long) (omega (arith, last-area, H .room, e))
 
-  module _ (t : Bool) (k : t ≡ lastKept (getD s 2 0) (take (103 + n - 103) (drop 103 s)) station (take (n - 0) (f .vector))) where
+  module _ (t : Bool) (k : t ≡ lastKept (getD s 2 0) (take (clockAt + n - clockAt) (drop clockAt s)) station (take (n - 0) (f .vector))) where
     last-tested : t ≡ last-test f
-    last-tested = let z : n - 0 ≡ sizeIn s = omega arith in k ∙ rw (part-of s 103 n (sizeIn s) e, z) refl
+    last-tested = let z : n - 0 ≡ sizeIn s = omega arith in k ∙ rw (part-of s clockAt n (sizeIn s) e, z) refl
 
     pub last-unruly : t ≡ false → (r : Loaded) (x : List ℕ) → (r, x) ≡ spoilt s → (r, x) ≡ lastTaken station bytes s
     last-unruly b r x g = g ∙ last-spoilt (third-fails (f .ok) (eqb (f .station) station) (last-test f) (sym last-tested ∙ b))
 
     pub last-right : f .ok ≡ true → f .station ≡ station → t ≡ true → (w : ℕ) → w ≡ f .station → (r : Loaded) (x : List ℕ)
-        → (r, x) ≡ took s (103 + n + w * n) (take (n - 0) (f .vector)) → (r, x) ≡ lastTaken station bytes s
+        → (r, x) ≡ took s (clockAt + n + w * n) (take (n - 0) (f .vector)) → (r, x) ≡ lastTaken station bytes s
     last-right ok same b w q r x g =
         let z : n - 0 ≡ sizeIn s = omega arith in
         let there : w ≡ station = q ∙ same in
@@ -150,7 +150,7 @@ module _ (s bytes : List ℕ) (object : ℕ) (f : Total) (h : f ≡ totalRead by
   total-test q = totalKept (totalBound (clockIn s)) (getD (kindsIn s) object 0) (ofComplement (ofTwoWords (q .high) (q .low)))
 
   abbrev total-taken : Total → Loaded × List ℕ
-  total-taken q = took s (39 + object * 2) (q .high ∷ q .low ∷ [])
+  total-taken q = took s (totalsAt + object * 2) (q .high ∷ q .low ∷ [])
 
   abbrev total-way : Total → Loaded × List ℕ
   total-way q = pick (q .ok && (eqb (q .object) object && total-test q)) (total-taken q) (spoilt s)
@@ -169,16 +169,16 @@ module _ (s bytes : List ℕ) (object : ℕ) (f : Total) (h : f ≡ totalRead by
     pub total-misplaced : (w ≡ object → ⊥) → (r : Loaded) (x : List ℕ) → (r, x) ≡ spoilt s → (r, x) ≡ totalTaken object bytes s
     total-misplaced d r x g = g ∙ total-spoilt (second-fails (f .ok) (eqb (f .object) object) (total-test f) (ne-eqb (f .object) object (λ a. d (q ∙ a))))
 
-  module _ (n : ℕ) (e : n ≡ getD s 1 0) (k : object < objectsIn s) (bound code : ℕ) (b : bound ≡ totalBound (take (103 + n - 103) (drop 103 s))) (c : code ≡ ofTwoWords (f .high) (f .low))
+  module _ (n : ℕ) (e : n ≡ getD s 1 0) (k : object < objectsIn s) (bound code : ℕ) (b : bound ≡ totalBound (take (clockAt + n - clockAt) (drop clockAt s))) (c : code ≡ ofTwoWords (f .high) (f .low))
       (t : Bool) (z : t ≡ totalKept bound (getD s (7 + object) 0) (ofComplement code)) where
     total-tested : t ≡ total-test f
-    total-tested = z ∙ rw (b, c, part-of s 103 n (sizeIn s) e, getD-take (objectsIn s) (drop 7 s) object 0 k, getD-drop 7 s object 0) refl
+    total-tested = z ∙ rw (b, c, part-of s clockAt n (sizeIn s) e, getD-take (objectsIn s) (drop 7 s) object 0 k, getD-drop 7 s object 0) refl
 
     pub total-unruly : t ≡ false → (r : Loaded) (x : List ℕ) → (r, x) ≡ spoilt s → (r, x) ≡ totalTaken object bytes s
     total-unruly y r x g = g ∙ total-spoilt (third-fails (f .ok) (eqb (f .object) object) (total-test f) (sym total-tested ∙ y))
 
     pub total-right : f .ok ≡ true → (w : ℕ) → w ≡ f .object → w ≡ object → t ≡ true → (r : Loaded) (x : List ℕ)
-        → (r, x) ≡ took s (39 + object * 2) (f .high ∷ f .low ∷ []) → (r, x) ≡ totalTaken object bytes s
+        → (r, x) ≡ took s (totalsAt + object * 2) (f .high ∷ f .low ∷ []) → (r, x) ≡ totalTaken object bytes s
     total-right ok w q same y r x g =
         g ∙ sym (picked (f .ok && (eqb (f .object) object && total-test f)) (total-taken f) (spoilt s) (all-three (f .ok) (eqb (f .object) object) (total-test f) ok (eq-eqb (f .object) object (sym q ∙ same)) (sym total-tested ∙ y)))
         ∙ total-is

@@ -5,7 +5,7 @@ use Prim.Native.Nat.{ℕ, suc, _+_, _*_}
 use lib.Dec.{eqb, leb}
 use lib.ListN.{getD, length, replicate, set, take}
 use lib.Seq.{paste}
-use Rattle.meaning.specs.Table.{totalBound}
+use Rattle.meaning.specs.Table.{totalBound, greatestSize, mostObjects}
 use Rattle.words_layout.specs.Layout.{clockAt, countIn, holdsTable, lastAt, ownIn, sizeIn, totalOfWords, totalsAt}
 use Rattle.table_rules.specs.TableTests.{clockIn, kindsIn}
 use Rattle.table_rules_clock.specs.ClockTests.{lastKept, totalKept}
@@ -22,7 +22,7 @@ progressIn words = getD words 6 0
 
 -- The opening line, D, and the lines of the other stations and of the counters: no form has more lines ahead of its rows.
 abbrev pub mostProgress : ℕ
-mostProgress = 49
+mostProgress = 2 + (greatestSize - 1) + mostObjects
 
 -- "In a load every wrong line ... gets 15 ... and zeroes the table space".
 unfoldable pub spoilt : List ℕ → Loaded × List ℕ

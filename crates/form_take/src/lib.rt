@@ -6,8 +6,9 @@ ghost use lib.ListN.{length};
 ghost use Rattle.words_layout.specs.Layout.{objectsIn, sizeIn};
 ghost use Rattle.form_row.specs.LoadHead.{LoadHead};
 ghost use Rattle.form_take.specs.Taking.{clockTaken, closed, finished, lastTaken, mostProgress, progressIn, rowOrClosing, rowTaken, spoilt, took, totalTaken};
-use form_row::SETTLED;
+ghost use Rattle.meaning.specs.Table.{greatestSize};
 use line_read::Row;
+use refusal_number::WRONG;
 use words_layout::CLOCK_AT;
 use words_layout::COUNT_AT;
 use words_layout::KEY;
@@ -18,9 +19,6 @@ use words_layout::SIZE_AT;
 use words_layout::TOTAL_WORDS;
 use words_layout::TOTALS_AT;
 use words_tags::Station;
-
-// "a saved line that is misplaced, misshapen or breaks a table rule"
-pub const WRONG: u32 = 15;
 
 // What a line of a form gets: a refusal's number, nothing but that it is taken, or that it closes the form and the table is there.
 pub enum Loaded {
@@ -113,10 +111,10 @@ pub fn take_total(space: &mut [u32], bytes: &[u8], object: usize) -> Loaded
 
 // A row, by its own rules and in order behind the last.
 fn take_row(space: &mut [u32], f: Row) -> Loaded
-    requires { ⌜ LoadHead (now space) × (length (f .vector) ≡ 16) ⌝ }
+    requires { ⌜ LoadHead (now space) × (length (f .vector) ≡ greatestSize) ⌝ }
     ensures { λ r. ⌜ (r, now (space .exit)) ≡ rowTaken f (now (space .entry)) ⌝ }
 {
-    if SETTLED < f.settled {
+    if line_read::SETTLED_BYTE < f.settled {
         return spoil(space);
     }
     let size = words_tags::wide(space[SIZE_AT]);

@@ -8,10 +8,10 @@ use borrow.Author.Tests.{eqb-false}
 use lib.Dec.{eqb}
 use lib.ListN.{length, length-append, length-map}
 use Rattle.meaning.specs.Operations.{isCounter}
-use Rattle.meaning.specs.Table.{Table, isTable, kindIn}
+use Rattle.meaning.specs.Table.{Table, isTable, kindIn, mostObjects}
 use Rattle.meaning.proofs.TableFacts.{Facts, HeaderFacts, facts, header-facts}
 use Rattle.form_lines.specs.FormLines.{lastLine, totalLine, rowLine, closingLine}
-use Rattle.form_write.specs.Forms.{linesOf, lastLines, totalLines, rowLines, savedForm}
+use Rattle.form_write.specs.Forms.{linesOf, lastLines, totalLines, rowLines, savedForm, mostFormLines}
 
 one-more : (b : Bool) (line : List ℕ) (lines : List (List ℕ)) (n : ℕ) → length lines ≤ n → length (cond b (line ∷ lines) lines) ≤ suc n
 one-more true line lines n h = let r : suc (length lines) ≤ suc n = omega arith in r
@@ -45,7 +45,7 @@ module _ (t : Table) (h : isTable t ≡ true) where
   unfolding lastLines
   lasts-count = omega (arith, others-count (t .header .own) lastLine 0 (t .last) (omega arith) (omega (arith, F .own-in, F .last-length)), F .last-length, H .size-range .1)
 
-  totals-count : length (totalLines t) ≤ 32
+  totals-count : length (totalLines t) ≤ mostObjects
   unfolding totalLines
   totals-count = omega (arith, lines-count (λ (object : ℕ). isCounter (kindIn (t .header) object)) totalLine 0 (t .totals), F .totals-length, H .objects-range .1)
 
@@ -53,6 +53,6 @@ module _ (t : Table) (h : isTable t ≡ true) where
   unfolding rowLines
   rows-count = omega (arith, length-append (map (rowLine (t .header .size)) (t .rows)) (closingLine (length (t .rows)) ∷ []), length-map (t .rows) (rowLine (t .header .size)), F .within, H .capacity-range .1)
 
-  pub form-count : length (savedForm t) ≤ 562
+  pub form-count : length (savedForm t) ≤ mostFormLines
   unfolding savedForm
   form-count = omega (arith, length-append (lastLines t) (totalLines t ++ rowLines t), length-append (totalLines t) (rowLines t), lasts-count, totals-count, rows-count)

@@ -13,7 +13,7 @@ use lib.Seq.{drop-cons, length-take-le}
 use Rattle.meaning.specs.Operations.{isCounter}
 use Rattle.meaning.specs.Table.{kindIn}
 use Rattle.words_layout.specs.Words.{pieces}
-use Rattle.words_layout.specs.Layout.{tableOf, totalOfWords, rowOf, rowsAt, rowWidth, rowsIn, sizeIn, ownIn, objectsIn, countIn}
+use Rattle.words_layout.specs.Layout.{tableOf, totalOfWords, rowOf, rowsAt, rowWidth, rowsIn, sizeIn, ownIn, objectsIn, countIn, clockAt, totalsAt}
 use Rattle.words_layout.proofs.Pieces.{length-pieces}
 use Rattle.table_rules.specs.Checked.{Checked}
 use Rattle.line_put.specs.Writing.{lineWritten}
@@ -123,7 +123,7 @@ module _ (s : List ℕ) (K : Checked s) (place n : ℕ) (en : n ≡ objectsIn s)
 
   totals-many : length (tableOf s .totals) ≡ objectsIn s
   unfolding tableOf
-  totals-many = length-map (pieces 2 (objectsIn s) (drop 39 s)) totalOfWords ∙ length-pieces 2 (objectsIn s) (drop 39 s)
+  totals-many = length-map (pieces 2 (objectsIn s) (drop totalsAt s)) totalOfWords ∙ length-pieces 2 (objectsIn s) (drop totalsAt s)
 
   found : r ≡ counterAt (tableOf s .header .kinds) 0 place
   found = e ∙ ap (λ (l : List ℕ). counterAt l 0 place) kinds-are
@@ -176,7 +176,7 @@ module _ (s : List ℕ) (K : Checked s) (out : List ℕ) (k : ℕ) (n0 : k ≡ 0
 
   lasts-many : length (tableOf s .last) ≡ size
   unfolding tableOf
-  lasts-many = length-pieces (sizeIn s) (sizeIn s) (drop (103 + sizeIn s) s) ∙ sym es
+  lasts-many = length-pieces (sizeIn s) (sizeIn s) (drop (clockAt + sizeIn s) s) ∙ sym es
 
   own-is : tableOf s .header .own ≡ ownIn s
   unfolding tableOf

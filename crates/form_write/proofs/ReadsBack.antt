@@ -14,7 +14,7 @@ use Rattle.meaning.specs.Order.{Vector, entryLimit, atMost, same}
 use Rattle.meaning.specs.Operations.{isCounter, codesOf, codeAllowed}
 use Rattle.meaning.specs.Rows.{Row}
 use Rattle.meaning.specs.Arrival.{getsRow}
-use Rattle.meaning.specs.Table.{Table, isTable, kindIn, lastRule, storable, zeros}
+use Rattle.meaning.specs.Table.{Table, isTable, kindIn, lastRule, storable, zeros, greatestSize}
 use Rattle.meaning.proofs.Tests.{cases, and-left, and-right, or-cases}
 use Rattle.meaning.proofs.Vectors.{same-eq}
 use Rattle.meaning.proofs.TableFacts.{Facts, HeaderFacts, RowFacts, facts, header-facts}
@@ -40,26 +40,26 @@ unfolding Fitting
 fit-each w [] f = tt
 fit-each w (x ∷ list) f = (f 0, fit-each w list (λ i. f (suc i)))
 
-pub below-every : (list : List ℕ) → every (λ (entry : ℕ). ltb entry entryLimit) list ≡ true → Below 4294967296 list
+pub below-every : (list : List ℕ) → every (λ (entry : ℕ). ltb entry entryLimit) list ≡ true → Below entryLimit list
 below-every [] h zero = omega arith
 below-every [] h (suc i) = omega arith
-below-every (x ∷ list) h zero = ltb-true x 4294967296 (and-left (ltb x entryLimit) (every (λ (entry : ℕ). ltb entry entryLimit) list) h)
+below-every (x ∷ list) h zero = ltb-true x entryLimit (and-left (ltb x entryLimit) (every (λ (entry : ℕ). ltb entry entryLimit) list) h)
 below-every (x ∷ list) h (suc i) = below-every list (and-right (ltb x entryLimit) (every (λ (entry : ℕ). ltb entry entryLimit) list) h) i
 
-below-most : (u v : Vector) → atMost u v ≡ true → Below 4294967296 v → Below 4294967296 u
+below-most : (u v : Vector) → atMost u v ≡ true → Below entryLimit v → Below entryLimit u
 below-most [] v h f zero = omega arith
 below-most [] v h f (suc i) = omega arith
 below-most (x ∷ u) [] h f i = absurd (false≢true h)
 below-most (x ∷ u) (y ∷ v) h f zero = omega (arith, leb-true x y (and-left (leb x y) (atMost u v) h), f 0)
 below-most (x ∷ u) (y ∷ v) h f (suc i) = below-most u v (and-right (leb x y) (atMost u v) h) (λ i. f (suc i)) i
 
-below-zeros : (n : ℕ) → Below 4294967296 (replicate n 0)
+below-zeros : (n : ℕ) → Below entryLimit (replicate n 0)
 below-zeros zero zero = omega arith
 below-zeros zero (suc i) = omega arith
 below-zeros (suc n) zero = omega arith
 below-zeros (suc n) (suc i) = below-zeros n i
 
-below-padded : (list : List ℕ) (n : ℕ) → Below 4294967296 list → Below 4294967296 (list ++ replicate n 0)
+below-padded : (list : List ℕ) (n : ℕ) → Below entryLimit list → Below entryLimit (list ++ replicate n 0)
 below-padded [] n f i = below-zeros n i
 below-padded (x ∷ list) n f zero = f 0
 below-padded (x ∷ list) n f (suc i) = below-padded list n (λ i. f (suc i)) i
@@ -125,13 +125,13 @@ module _ (t : Table) (h : isTable t ≡ true) where
   unfolding openingLine
   kinds-back = opening-kinds-read-back size (t .header .own) (t .header .capacity) (t .header .kinds) opening-fits
 
-  clock-below : Below 4294967296 (t .clock)
+  clock-below : Below entryLimit (t .clock)
   clock-below = below-every (t .clock) (F .clock-words)
 
-  clock-few : length (t .clock) ≤ 16
+  clock-few : length (t .clock) ≤ greatestSize
   clock-few = omega (arith, F .clock-length, H .size-range .1)
 
-  pub clock-back : clockRead size (clockLine (t .clock)) ≡ record { ok = true; vector = padded 16 (t .clock) }
+  pub clock-back : clockRead size (clockLine (t .clock)) ≡ record { ok = true; vector = padded greatestSize (t .clock) }
   unfolding clockLine Fitting
   clock-back = rw (sym (F .clock-length)) (clock-reads-back (t .clock) clock-few (omega arith, fit-each 4 (t .clock) clock-below))
 
@@ -140,19 +140,19 @@ module _ (t : Table) (h : isTable t ≡ true) where
     abbrev vector : Vector
     vector = getD (t .last) k []
 
-    pub last-known : (length vector ≡ size) × Below 4294967296 vector
+    pub last-known : (length vector ≡ size) × Below entryLimit vector
     unfolding lastRule zeros
     last-known = by (eqb k (t .header .own)) (F .last-rule k b)
       where
-        by : (own : Bool) → cond own (same vector (zeros size)) (eqb (length vector) size && (atMost vector (t .clock) && eqb (getD vector k 0) (getD (t .clock) k 0))) ≡ true → (length vector ≡ size) × Below 4294967296 vector
-        by true e = let z : vector ≡ replicate size 0 = same-eq vector (zeros size) e in (ap length z ∙ length-replicate size 0, subst (Below 4294967296) (sym z) (below-zeros size))
+        by : (own : Bool) → cond own (same vector (zeros size)) (eqb (length vector) size && (atMost vector (t .clock) && eqb (getD vector k 0) (getD (t .clock) k 0))) ≡ true → (length vector ≡ size) × Below entryLimit vector
+        by true e = let z : vector ≡ replicate size 0 = same-eq vector (zeros size) e in (ap length z ∙ length-replicate size 0, subst (Below entryLimit) (sym z) (below-zeros size))
         by false e =
             let rest = and-right (eqb (length vector) size) (atMost vector (t .clock) && eqb (getD vector k 0) (getD (t .clock) k 0)) e in (
               eqb-true (length vector) size (and-left (eqb (length vector) size) (atMost vector (t .clock) && eqb (getD vector k 0) (getD (t .clock) k 0)) e),
               below-most vector (t .clock) (and-left (atMost vector (t .clock)) (eqb (getD vector k 0) (getD (t .clock) k 0)) rest) clock-below,
             )
 
-    pub last-back : lastRead size (lastLine k vector) ≡ record { ok = true; station = k; vector = padded 16 vector }
+    pub last-back : lastRead size (lastLine k vector) ≡ record { ok = true; station = k; vector = padded greatestSize vector }
     unfolding lastLine Fitting
     last-back =
         rw (sym (last-known .0)) (last-reads-back vector (omega (arith, last-known .0, H .size-range .1)) k (omega arith, (omega (arith, b, H .size-range .1), fit-each 4 vector (last-known .1))))
@@ -176,18 +176,18 @@ module _ (t : Table) (h : isTable t ≡ true) where
         code-low kind (r .operation .code) (and-left (codeAllowed kind (r .operation .code)) (getsRow kind (r .operation))
         (and-right (not (isCounter kind)) (codeAllowed kind (r .operation .code) && getsRow kind (r .operation)) (R .is-storable)))
 
-    pub row-known : (r .operation .sender < 16) × (length (r .operation .vector) ≤ size) × Below 4294967296 (r .operation .vector)
+    pub row-known : (r .operation .sender < greatestSize) × (length (r .operation .vector) ≤ size) × Below entryLimit (r .operation .vector)
     row-known = cases (r .settled)
         (λ q. let sender : r .operation .sender ≡ 0 = ap (λ (x : Row). x .operation .sender) (R .without-tag q) in
         let none : r .operation .vector ≡ [] = ap (λ (x : Row). x .operation .vector) (R .without-tag q) in
-        (omega (arith, sender), omega (arith, ap length none), subst (Below 4294967296) (sym none) (below-zeros 0)))
+        (omega (arith, sender), omega (arith, ap length none), subst (Below entryLimit) (sym none) (below-zeros 0)))
         (λ q. (omega (arith, R .sender-in q, H .size-range .1), omega (arith, R .vector-length q), below-most (r .operation .vector) (t .clock) (R .below-clock q) clock-below))
 
     abbrev entries : List ℕ
     entries = words.padded size (r .operation .vector)
 
     pub row-back : rowRead size (rowLine size r)
-        ≡ record { ok = true; object = r .operation .object; code = r .operation .code; settled = cond (r .settled) 1 0; sender = r .operation .sender; value = r .operation .value; vector = padded 16 entries }
+        ≡ record { ok = true; object = r .operation .object; code = r .operation .code; settled = cond (r .settled) 1 0; sender = r .operation .sender; value = r .operation .value; vector = padded greatestSize entries }
     unfolding rowLine Fitting
     row-back =
         let long : length entries ≡ size = length-padded size (r .operation .vector) (row-known .1) in

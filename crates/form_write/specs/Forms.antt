@@ -5,7 +5,7 @@ use Prim.Native.Nat.{ℕ, zero, suc}
 use lib.Dec.{eqb}
 use lib.ListN.{length}
 use Rattle.meaning.specs.Operations.{isCounter}
-use Rattle.meaning.specs.Table.{Table, kindIn}
+use Rattle.meaning.specs.Table.{Table, kindIn, greatestSize, mostRows, mostObjects}
 use Rattle.line_put.specs.Writing.{lineWritten}
 use Rattle.line_put.specs.declared.Written.{Written}
 use Rattle.line_put.specs.declared.Written.the-variants as written
@@ -34,6 +34,10 @@ rowLines table = map (rowLine (table .header .size)) (table .rows) ++ (closingLi
 -- the saved form, line by line
 unfoldable pub savedForm : Table → List (List ℕ)
 savedForm table = openingLine (table .header) ∷ clockLine (table .clock) ∷ (lastLines table ++ (totalLines table ++ rowLines table))
+
+-- no form has more lines: its opening, D, the other last vectors, the totals, the rows, its closing line
+abbrev pub mostFormLines : ℕ
+mostFormLines = 2 + (greatestSize - 1) + mostObjects + mostRows + 1
 
 -- so many characters were written, or the space is too short
 unfoldable pub formedOf : Written → Formed

@@ -9,7 +9,7 @@ use lib.Dec.{eqb, leb}
 use lib.ListN.{drop, length, length-replicate}
 use lib.Seq.{take-at}
 use Rattle.meaning.specs.Operations.{Operation}
-use Rattle.meaning.specs.Table.{Table, zeros}
+use Rattle.meaning.specs.Table.{Table, zeros, mostRows}
 use Rattle.meaning.specs.Refusals.{Local, issuedBy, refusalOfLocal}
 use Rattle.meaning.specs.Questions as asks
 use Rattle.meaning.specs.Calls as meaning
@@ -25,7 +25,7 @@ use Rattle.line_hex.specs.Hex.{digitOf, digitsOf, hexLine}
 use Rattle.line_hex.specs.Numbers.{bigEndian}
 use Rattle.line_shape.specs.Shapes.{written}
 use Rattle.line_put.specs.Writing.{lineBytes, lineWritten}
-use Rattle.line_read.specs.Types.{issue, opening, operation, printing, question, settling}
+use Rattle.line_read.specs.Types.{issue, opening, operation, printing, question, settling, longestFrame}
 use Rattle.line_read.specs.Named.{issueRead, openingRead, operationRead, printingRead, questionRead, settlingRead}
 use Rattle.line_decode.specs.Decoding.{bytesOf}
 use Rattle.call_question.specs.AnswerBytes.{listBytes, refusalBytes, replyBytes}
@@ -34,7 +34,7 @@ use Rattle.call_checked.specs.declared.Opened.the-variants as opened
 use Rattle.call_checked.specs.declared.Received.the-variants as received
 use Rattle.call_checked.specs.declared.Settled.the-variants as settled
 use Rattle.call_checked.specs.Called.{frameBytes, frameOf, framedAs, headerRead, issuedAs, issuedOn, localOf, openedAs, openedBy, receivedAs, receivedOn, repliedOn, settledAs, settledOn}
-use Rattle.call_answer.specs.Answering.{answerOn, changing, issueAnswer, issuedBytes, openedBytes, questionAnswer, receivedBytes, secondOpening, settledBytes}
+use Rattle.call_answer.specs.Answering.{answerOn, changing, issueAnswer, issuedBytes, openedBytes, questionAnswer, receivedBytes, secondOpening, settledBytes, frameRoom}
 use Rattle.line_decode.specs.Decoding.{typeOf}
 use Rattle.form_write.specs.Forms.{savedForm}
 use Rattle.form_save.specs.declared.Saved.{Saved}
@@ -93,19 +93,19 @@ reply-told (meaning.Reply.answered (asks.count number)) out = refl
 reply-told (meaning.Reply.answered (asks.holds there)) out = refl
 
 -- room for every list
-list-room : length (zeros 512) ≡ 512
+list-room : length (zeros mostRows) ≡ mostRows
 unfolding zeros
-list-room = length-replicate {A = ℕ} 512 0
+list-room = length-replicate {A = ℕ} mostRows 0
 
-question-told : (line words : List ℕ) → questionAnswer line words ≡ repliedAnswer (repliedOn line words (zeros 512))
+question-told : (line words : List ℕ) → questionAnswer line words ≡ repliedAnswer (repliedOn line words (zeros mostRows))
 unfolding questionAnswer repliedOn repliedAnswer
 question-told line words = by (questionRead (bytesOf line) .ok)
   where
     asked : asks.Asked
     asked = askedFrom (questionRead (bytesOf line) .object) (questionRead (bytesOf line) .question) (questionRead (bytesOf line) .value)
 
-    by : (b : Bool) → pick b (replyBytes (meaning.ask (tableOf words) 512 asked)) (refusalBytes 1) ≡ repliedAnswer (pick b (replied (meaning.ask (tableOf words) (length (zeros 512)) asked) (zeros 512)) (reply.Refused 1, zeros 512))
-    by true = ap (λ (n : ℕ). replyBytes (meaning.ask (tableOf words) n asked)) (sym list-room) ∙ reply-told (meaning.ask (tableOf words) (length (zeros 512)) asked) (zeros 512)
+    by : (b : Bool) → pick b (replyBytes (meaning.ask (tableOf words) mostRows asked)) (refusalBytes 1) ≡ repliedAnswer (pick b (replied (meaning.ask (tableOf words) (length (zeros mostRows)) asked) (zeros mostRows)) (reply.Refused 1, zeros mostRows))
+    by true = ap (λ (n : ℕ). replyBytes (meaning.ask (tableOf words) n asked)) (sym list-room) ∙ reply-told (meaning.ask (tableOf words) (length (zeros mostRows)) asked) (zeros mostRows)
     by false = refl
 
 -- a frame, as it stands in a frame space and as it is told
@@ -131,7 +131,7 @@ outcome-told words out number u t fits = by (eqb number 0)
     by true = frame-told words out u t fits
     by false = refl
 
-issue-told : (line words : List ℕ) → holdsTable words ≡ true → characters (issueAnswer line words) ≡ issuedAnswer (issuedOn line words (zeros 147))
+issue-told : (line words : List ℕ) → holdsTable words ≡ true → characters (issueAnswer line words) ≡ issuedAnswer (issuedOn line words (zeros longestFrame))
 unfolding issueAnswer issuedOn issuedAnswer meaning.issue
 issue-told line words held = by (issueRead (bytesOf line) .ok)
   where
@@ -141,11 +141,11 @@ issue-told line words held = by (issueRead (bytesOf line) .ok)
     u : Operation
     u = issuedBy (tableOf words) local
 
-    fits : leb (length (hexLine (frameBytes u))) (length (zeros 147)) ≡ true
-    fits = rw zeros-frame (le-leb (length (hexLine (frameBytes u))) 147 (frame-room words (checked words held) local))
+    fits : leb (length (hexLine (frameBytes u))) (length (zeros longestFrame)) ≡ true
+    fits = rw zeros-frame (le-leb (length (hexLine (frameBytes u))) longestFrame (frame-room words (checked words held) local))
 
-    by : (b : Bool) → characters (pick b (issuedBytes words (meaning.issue (tableOf words) local)) (refusalBytes 1, words)) ≡ issuedAnswer (pick b (issuedAs words (zeros 147) (meaning.issue (tableOf words) local)) (issued.Refused 1, (words, zeros 147)))
-    by true = outcome-told words (zeros 147) (refusalOfLocal (tableOf words) local) u (afterArrival (tableOf words) u (tableOf words .last)) fits
+    by : (b : Bool) → characters (pick b (issuedBytes words (meaning.issue (tableOf words) local)) (refusalBytes 1, words)) ≡ issuedAnswer (pick b (issuedAs words (zeros longestFrame) (meaning.issue (tableOf words) local)) (issued.Refused 1, (words, zeros longestFrame)))
+    by true = outcome-told words (zeros longestFrame) (refusalOfLocal (tableOf words) local) u (afterArrival (tableOf words) u (tableOf words .last)) fits
     by false = refl
 
 -- a `60` line to a table
@@ -159,7 +159,7 @@ module _ (line words : List ℕ) (t : typeOf line ≡ printing .typeByte) where
     abbrev given : Saved × List ℕ
     given = savedBy line words place out
 
-    room : 149 ≤ length out
+    room : frameRoom ≤ length out
     room = omega (arith, long)
 
     at-place : (a : Answered) (y : List ℕ) → (a, y) ≡ printedAt (linesFor line words) place out → answeredBy line place words out ≡ (a, (words, y))
@@ -185,20 +185,20 @@ module _ (line words : List ℕ) (t : typeOf line ≡ printing .typeByte) where
   told-misshapen m h = let unread : printingRead (bytesOf line) ≡ false = printing-shaped line ∙ m in rw (by-table line words 96 t, h, unread) refl
 
 module _ (line words : List ℕ) where
-  told-question : typeOf line ≡ question .typeByte → answerOf line words ≡ (repliedAnswer (repliedBy line words (zeros 512)), words)
+  told-question : typeOf line ≡ question .typeByte → answerOf line words ≡ (repliedAnswer (repliedBy line words (zeros mostRows)), words)
   unfolding answerOn repliedBy repliedAnswer
   told-question z = by-table line words 64 z ∙ by (holdsTable words)
     where
-      by : (b : Bool) → pick {A = List ℕ × List ℕ} b (questionAnswer line words, words) (refusalBytes 14, words) ≡ (repliedAnswer (pick b (repliedOn line words (zeros 512)) (reply.Refused 14, zeros 512)), words)
+      by : (b : Bool) → pick {A = List ℕ × List ℕ} b (questionAnswer line words, words) (refusalBytes 14, words) ≡ (repliedAnswer (pick b (repliedOn line words (zeros mostRows)) (reply.Refused 14, zeros mostRows)), words)
       by true = ap (λ (l : List ℕ). (l, words)) (question-told line words)
       by false = refl
 
-  told-issue : typeOf line ≡ issue .typeByte → characters (answerOf line words) ≡ issuedAnswer (calls.issuedBy line words (zeros 147))
+  told-issue : typeOf line ≡ issue .typeByte → characters (answerOf line words) ≡ issuedAnswer (calls.issuedBy line words (zeros longestFrame))
   unfolding answerOn calls.issuedBy issuedAnswer
   told-issue z = ap characters (by-table line words 33 z) ∙ by (holdsTable words) (issue-told line words)
     where
-      by : (b : Bool) → (b ≡ true → characters (issueAnswer line words) ≡ issuedAnswer (issuedOn line words (zeros 147))) →
-          characters (pick b (issueAnswer line words) (refusalBytes 14, words)) ≡ issuedAnswer (pick b (issuedOn line words (zeros 147)) (issued.Refused 14, (words, zeros 147)))
+      by : (b : Bool) → (b ≡ true → characters (issueAnswer line words) ≡ issuedAnswer (issuedOn line words (zeros longestFrame))) →
+          characters (pick b (issueAnswer line words) (refusalBytes 14, words)) ≡ issuedAnswer (pick b (issuedOn line words (zeros longestFrame)) (issued.Refused 14, (words, zeros longestFrame)))
       by true f = f refl
       by false f = refl
 

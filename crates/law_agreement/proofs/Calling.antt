@@ -9,7 +9,7 @@ use borrow.Author.Tests.{eqb-true, le-leb}
 use Rattle.meaning.specs.Operations.{Operation}
 use Rattle.meaning.specs.Rows.{Row, unsettledCount}
 use Rattle.meaning.specs.Table.{Header, Table, inRange, isTable, opened}
-use Rattle.meaning.specs.Refusals.{Frame, Local, refusalOfFrame, refusalOfLocal, refusalOfSettling, settlingRefusals, issuedBy, firstOf, openingRefusals}
+use Rattle.meaning.specs.Refusals.{Frame, Local, refusalOfFrame, refusalOfLocal, refusalOfSettling, settlingRefusals, issuedBy, firstOf, openingRefusals, greatestLimit}
 use Rattle.meaning.specs.Questions.{Asked}
 use Rattle.meaning.specs.Calls as meaning
 use Rattle.meaning.specs.Calls.{outcome, afterArrival, withRows, rowsSettled, meant}
@@ -87,10 +87,10 @@ module _ (words : List ℕ) (station : Station) (H : Holds words station) where
       by false = H
 
   -- a settling call
-  settle-event : (limit : ℕ) → limit ≤ 65535 → Holds (settledAs words (meaning.settle (tableOf words) limit) .1) (after (history.settles limit) station)
+  settle-event : (limit : ℕ) → limit ≤ greatestLimit → Holds (settledAs words (meaning.settle (tableOf words) limit) .1) (after (history.settles limit) station)
   unfolding after meaning.settle settledAs afterSettling refusalOfSettling settlingRefusals
   settle-event limit h = subst (λ (t : Table). Holds (settledAs words (meaning.settle (tableOf words) limit) .1) (afterSettling station (meaning.settle t limit))) (H .table-is)
-      (rw (le-leb limit 65535 h) (put (record { table = withRows (tableOf words) (rowsSettled (tableOf words) limit); accepted = station .accepted }) (kept-by-settling (tableOf words) limit (K .by-rules))))
+      (rw (le-leb limit greatestLimit h) (put (record { table = withRows (tableOf words) (rowsSettled (tableOf words) limit); accepted = station .accepted }) (kept-by-settling (tableOf words) limit (K .by-rules))))
 
   settle-holds : (line : List ℕ) → Holds (settledBy line words .1) (afterAll (eventsOf (settles line) words) station)
   unfolding settledBy settledOn eventsOf afterAll

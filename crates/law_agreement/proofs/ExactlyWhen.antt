@@ -10,9 +10,9 @@ use lib.ListN.{length, drop, getD, set}
 use borrow.Author.Tests.{eqb-true, eq-eqb, ne-eqb, le-leb, le-ltb, leb-true, leb-false, lt-ltb, ltb-true, ltb-false}
 use Rattle.meaning.specs.Operations as meant
 use Rattle.meaning.specs.Table as tables
-use Rattle.meaning.specs.Table.{Table, inRange}
+use Rattle.meaning.specs.Table.{Table, inRange, greatestSize}
 use Rattle.meaning.specs.Questions.{Answer, Asked, Source, total, flag, list, count, holds, byRows, answerFrom}
-use Rattle.meaning.specs.Refusals.{Refusal, firstOf, Frame, Local, wellShaped, operationAllowed, frameRefusals, arrivalRefusals, refusalOfFrame, issuedBy, issueRefusals, localRefusals, refusalOfLocal, settlingRefusals, refusalOfSettling, wellAsked, askedRefusals, questionRefusals, openingRefusals}
+use Rattle.meaning.specs.Refusals.{Refusal, firstOf, Frame, Local, wellShaped, operationAllowed, frameRefusals, arrivalRefusals, refusalOfFrame, issuedBy, issueRefusals, localRefusals, refusalOfLocal, settlingRefusals, refusalOfSettling, wellAsked, askedRefusals, questionRefusals, openingRefusals, greatestLimit}
 use Rattle.meaning.specs.Calls as meaning
 use Rattle.meaning.specs.Calls.{outcome, afterArrival, withRows, rowsSettled, steps, replyOf}
 use Rattle.meaning.proofs.Tests.{cases}
@@ -140,14 +140,14 @@ module _ (line words : List ℕ) where
   by-shape false false true well same rest a w f = rw (f refl) refl
   by-shape false false false well same rest a w f = refl
 
-  other-size : Checked words → leb size 16 ≡ false → eqb size (table .header .size) ≡ false
+  other-size : Checked words → leb size greatestSize ≡ false → eqb size (table .header .size) ≡ false
   unfolding tableOf
-  other-size K f = ne-eqb size (sizeIn words) (λ e. let more = leb-false size 16 f in let few = K .few in omega arith)
+  other-size K f = ne-eqb size (sizeIn words) (λ e. let more = leb-false size greatestSize f in let few = K .few in omega arith)
 
   receive-told : receivedBy line words ≡ hears (firstOf (receiveConditions line words))
   unfolding receivedBy receivedOn receiveConditions meaning.receive refusalOfFrame arrivalRefusals frameRefusals
   receive-told = on-table hears (holdsTable words) _ _ (λ h.
-      by-shape (operationRead (bytesOf line) .ok) (leb size 16) (isLineOf operation size line) (wellShaped (table .header) frame) (eqb size (table .header .size)) _
+      by-shape (operationRead (bytesOf line) .ok) (leb size greatestSize) (isLineOf operation size line) (wellShaped (table .header) frame) (eqb size (table .header .size)) _
       (operation-shaped line) (λ ok. frame-shaped (bytesOf line) (heard-bytes line) ok (table .header)) (other-size (checked words h)))
 
 -- a local operation
@@ -215,9 +215,9 @@ module _ (line words : List ℕ) where
   abbrev settles : ℕ → Settled × List ℕ
   settles r = cond (eqb r 0) (settleResult line words) (settled.Refused r, words)
 
-  limit-taken : (n : ℕ) → n ≤ 65535 → meaning.settle (tableOf words) n ≡ meaning.Settled.settled (steps (tableOf words) n) (withRows (tableOf words) (rowsSettled (tableOf words) n))
+  limit-taken : (n : ℕ) → n ≤ greatestLimit → meaning.settle (tableOf words) n ≡ meaning.Settled.settled (steps (tableOf words) n) (withRows (tableOf words) (rowsSettled (tableOf words) n))
   unfolding meaning.settle refusalOfSettling settlingRefusals
-  limit-taken n h = rw (le-leb n 65535 h) refl
+  limit-taken n h = rw (le-leb n greatestLimit h) refl
 
   settle-told : settledBy line words ≡ settles (firstOf (settleConditions line words))
   unfolding settledBy settledOn settleConditions settleResult settledAs

@@ -11,7 +11,7 @@ use borrow.Author.Tests.{ltb-true, not-false}
 use Rattle.meaning.specs.Tests.{every}
 use Rattle.meaning.specs.Order.{entryLimit}
 use Rattle.meaning.specs.Operations as meant
-use Rattle.meaning.specs.Table.{Table}
+use Rattle.meaning.specs.Table.{Table, greatestSize}
 use Rattle.meaning.specs.Refusals.{Frame, Local, operationAllowed, issuedBy, issueRefusals, localRefusals, refusalOfLocal}
 use Rattle.meaning.specs.Calls as meaning
 use Rattle.meaning.specs.Calls.{outcome, afterArrival}
@@ -28,7 +28,7 @@ use Rattle.line_hex.proofs.Bytes.{all-bytes-drop}
 use Rattle.line_shape.specs.Reading.{fieldsRead, hasShape, padded}
 use Rattle.line_shape.specs.Shapes.{Fitting, read, lengthOf}
 use Rattle.line_read.specs.declared.Operation as lines
-use Rattle.line_read.specs.Types.{lineRead, operation, shapeOf}
+use Rattle.line_read.specs.Types.{lineRead, operation, shapeOf, longest}
 use Rattle.line_read.specs.Named.{issueRead, operationRead}
 use Rattle.line_read.proofs.Longest.{operation-at-most-longest}
 use Rattle.line_read.proofs.Named.{operation-reads-back}
@@ -46,12 +46,13 @@ use Rattle.call_checked.proofs.Settling.{heard-bytes}
 use Rattle.call_checked.proofs.Receiving.{picked}
 use Rattle.law_agreement.proofs.Shaping.{one-byte, four-bytes}
 use Rattle.law_agreement.proofs.ExactlyWhen.{exactly-when}
+use Rattle.meaning.specs.Operations.{valueLimit}
 
 -- the fields of an issue line fit the bytes of a frame
 pub record Narrow (local : Local) : Type 0 where
   pub object : local .object < 256
   pub code : local .code < 256
-  pub value : local .value < 4294967296
+  pub value : local .value < valueLimit
 
 issue-narrow : (bytes : List ℕ) → AllBytes bytes → Narrow (localOf (issueRead bytes))
 unfolding localOf issueRead lineRead fieldsRead read padded hasShape lengthOf
@@ -92,7 +93,7 @@ module _ (words : List ℕ) (K : Checked words) (local : Local) (ok : refusalOfL
       let own = K .own in
       (omega arith, (omega (arith, long), (omega arith, (narrow .object, (narrow .code, (narrow .value, fits-entries (u .vector) (kept .clock-words)))))))
 
-  reads : operationRead (frameBytes u) ≡ record { ok = true; stations = length (u .vector); sender = u .sender; object = u .object; code = u .code; value = u .value; vector = padded 16 (u .vector) }
+  reads : operationRead (frameBytes u) ≡ record { ok = true; stations = length (u .vector); sender = u .sender; object = u .object; code = u .code; value = u .value; vector = padded greatestSize (u .vector) }
   unfolding frameBytes
   reads = operation-reads-back (u .sender) (u .object) (u .code) (u .value) (u .vector) (let few = K .few in omega (arith, long)) fitting
 
@@ -101,11 +102,11 @@ module _ (words : List ℕ) (K : Checked words) (local : Local) (ok : refusalOfL
 
   reads-frame : frameOf (operationRead (frameBytes u)) ≡ sent
   unfolding frameOf padded tableOf issuedBy
-  reads-frame = ap frameOf reads ∙ rw (take-at (u .vector) (replicate (16 - length (u .vector)) 0) (length (u .vector)) refl, long) refl
+  reads-frame = ap frameOf reads ∙ rw (take-at (u .vector) (replicate (greatestSize - length (u .vector)) 0) (length (u .vector)) refl, long) refl
 
   line-back : bytesOf (hexLine (frameBytes u)) ≡ frameBytes u
   unfolding frameBytes
-  line-back = bytes-back (frameBytes u) (replicate 261 0) (all-bytes-line-of operation _ _) (length-replicate {A = ℕ} 261 0) (operation-at-most-longest (frameBytes u) reads-ok)
+  line-back = bytes-back (frameBytes u) (replicate longest 0) (all-bytes-line-of operation _ _) (length-replicate {A = ℕ} longest 0) (operation-at-most-longest (frameBytes u) reads-ok)
 
 -- what the characters of an issued frame say, and what the space holds that issued it
 pub record Says (words words′ : List ℕ) (local : Local) (characters : List ℕ) : Type 0 where

@@ -9,7 +9,7 @@ use lib.ListN.{getD, length, length-set, drop, set, take}
 use borrow.Author.Tests.{le-leb}
 use Rattle.meaning.specs.Operations.{Operation}
 use Rattle.meaning.specs.Rows.{unsettledCount}
-use Rattle.meaning.specs.Table.{Header, Table, kindIn, zeros}
+use Rattle.meaning.specs.Table.{Header, Table, kindIn, zeros, greatestSize, mostRows}
 use Rattle.meaning.specs.Refusals.{Frame, Local, issuedBy, refusalOfFrame, refusalOfLocal, declared, wellAsked, askedRefusals, questionRefusals}
 use Rattle.meaning.specs.Questions as asks
 use Rattle.meaning.specs.Calls as meaning
@@ -31,7 +31,7 @@ use Rattle.line_shape.specs.Shapes.{lengthOf, written}
 use Rattle.line_put.specs.Writing.{lineBytes}
 use Rattle.line_put.specs.declared.Written.{Written}
 use Rattle.line_put.proofs.Whole.{length-hex-line}
-use Rattle.line_read.specs.Types.{operation, question, refused}
+use Rattle.line_read.specs.Types.{operation, question, refused, longestFrame}
 use Rattle.line_read.specs.Named.{issueRead, openingRead, operationRead, questionRead, settlingRead}
 use Rattle.line_print.specs.Printed.{printed}
 use Rattle.line_decode.specs.Decoding.{bytesOf}
@@ -47,7 +47,7 @@ use Rattle.call_checked.specs.declared.Settled.the-variants as settled
 use Rattle.call_checked.specs.declared.Opened.{Opened}
 use Rattle.call_checked.specs.declared.Opened.the-variants as opened
 use Rattle.call_checked.specs.Called.{frameBytes, frameOf, headerRead, issuedOn, localOf, openedBy, receivedAs, receivedOn, settledOn}
-use Rattle.call_answer.specs.Answering.{answerOn, doneBytes, issueAnswer, issuedBytes, openedBytes, questionAnswer, receivedBytes, secondOpening, settledBytes, answeredAfter}
+use Rattle.call_answer.specs.Answering.{answerOn, doneBytes, issueAnswer, issuedBytes, openedBytes, questionAnswer, receivedBytes, secondOpening, settledBytes, answeredAfter, frameRoom}
 use Rattle.call_answer.proofs.Framing.{issue-framed, issue-refused}
 use Rattle.line_decode.specs.Decoding.{typeOf}
 use Rattle.calls.specs.Answers.{answerOf}
@@ -67,15 +67,15 @@ pub done-is-done : isDone doneBytes ≡ true
 unfolding isDone doneBytes lineBytes written bigEndian
 done-is-done = refl
 
-zeros-long : 149 ≤ length (zeros 149)
+zeros-long : frameRoom ≤ length (zeros frameRoom)
 unfolding zeros
 zeros-long = omega arith
 
-pub zeros-frame : length (zeros 147) ≡ 147
+pub zeros-frame : length (zeros longestFrame) ≡ longestFrame
 unfolding zeros
 zeros-frame = refl
 
-zeros-lent : take (length (zeros 149) - 2) (drop 2 (zeros 149)) ≡ zeros 147
+zeros-lent : take (length (zeros frameRoom) - 2) (drop 2 (zeros frameRoom)) ≡ zeros longestFrame
 unfolding zeros
 zeros-lent = refl
 
@@ -85,7 +85,7 @@ module _ (line words : List ℕ) (held : holdsTable words ≡ true) where
   on-table = rw held refl
 
   -- a local operation leaves the same words with any room that every frame has
-  module _ (out : List ℕ) (room : 149 ≤ length out) where
+  module _ (out : List ℕ) (room : frameRoom ≤ length out) where
     abbrev lent : List ℕ
     lent = take (length out - 2) (drop 2 out)
 
@@ -108,8 +108,8 @@ module _ (line words : List ℕ) (held : holdsTable words ≡ true) where
     issue-lent : x ≡ issueAnswer line words .1
     issue-lent = issue-by (issuedOn line words lent .0) refl
 
-  issue-words : issueAnswer line words .1 ≡ issuedOn line words (zeros 147) .1 .0
-  issue-words = sym (subst (λ (l : List ℕ). issuedOn line words l .1 .0 ≡ issueAnswer line words .1) zeros-lent (issue-lent (zeros 149) zeros-long))
+  issue-words : issueAnswer line words .1 ≡ issuedOn line words (zeros longestFrame) .1 .0
+  issue-words = sym (subst (λ (l : List ℕ). issuedOn line words l .1 .0 ≡ issueAnswer line words .1) zeros-lent (issue-lent (zeros frameRoom) zeros-long))
 
   -- a line leaves what the call that it is leaves
   pub line-words : answerOf line words .1 ≡ wordsAfterAll (callsOf line) words
@@ -118,15 +118,15 @@ module _ (line words : List ℕ) (held : holdsTable words ≡ true) where
     where
       by : (a b c d e : Bool) →
           pick a (receivedBytes (receivedOn line words .0), receivedOn line words .1) (pick b (issueAnswer line words) (pick c (settledBytes (settledOn line words .0), settledOn line words .1) (pick d (questionAnswer line words, words) (pick e (secondOpening line, words) (refusalBytes 1, words))))) .1
-          ≡ wordsAfterAll (pick a (receives line ∷ []) (pick b (issues line (zeros 147) ∷ []) (pick c (settles line ∷ []) []))) words
+          ≡ wordsAfterAll (pick a (receives line ∷ []) (pick b (issues line (zeros longestFrame) ∷ []) (pick c (settles line ∷ []) []))) words
       by true b c d e = sym (ap (λ (q : Received × List ℕ). q .1) (picked (holdsTable words) (receivedOn line words) (received.Refused 14, words) held))
-      by false true c d e = issue-words ∙ sym (ap (λ (q : Issued × (List ℕ × List ℕ)). q .1 .0) (picked (holdsTable words) (issuedOn line words (zeros 147)) (issued.Refused 14, (words, zeros 147)) held))
+      by false true c d e = issue-words ∙ sym (ap (λ (q : Issued × (List ℕ × List ℕ)). q .1 .0) (picked (holdsTable words) (issuedOn line words (zeros longestFrame)) (issued.Refused 14, (words, zeros longestFrame)) held))
       by false false true d e = sym (ap (λ (q : Settled × List ℕ). q .1) (picked (holdsTable words) (settledOn line words) (settled.Refused 14, words) held))
       by false false false true e = refl
       by false false false false true = refl
       by false false false false false = refl
 
-size-few : (words : List ℕ) → Checked words → tableOf words .header .size ≤ 16
+size-few : (words : List ℕ) → Checked words → tableOf words .header .size ≤ greatestSize
 unfolding tableOf
 size-few words K = K .few
 
@@ -136,7 +136,7 @@ unfolding answerOn
 question-on line words held type = on-table line words held ∙ rw type refl
 
 -- every frame that is issued has room
-pub frame-room : (words : List ℕ) → Checked words → (local : Local) → length (hexLine (frameBytes (issuedBy (tableOf words) local))) ≤ 147
+pub frame-room : (words : List ℕ) → Checked words → (local : Local) → length (hexLine (frameBytes (issuedBy (tableOf words) local))) ≤ longestFrame
 unfolding frameBytes issuedBy lengthOf
 frame-room words K local =
     let table = tableOf words in
@@ -189,12 +189,12 @@ module _ (line words : List ℕ) (s : Station) (H : Holds words s) where
   issue-taken = ap (λ (t : Table). afterOutcome s (meaning.issue t local) .accepted) (sym (H .table-is))
       ∙ issue-outcome (refusalOfLocal (tableOf words) local) (issuedBy (tableOf words) local) (afterArrival (tableOf words) (issuedBy (tableOf words) local) (tableOf words .last))
 
-  issue-accepted : afterAll (eventsOf (issues line (zeros 147)) words) s .accepted ≡ pick (isDone (issueAnswer line words .0)) (issuedBy (tableOf words) local ∷ []) [] ++ s .accepted
+  issue-accepted : afterAll (eventsOf (issues line (zeros longestFrame)) words) s .accepted ≡ pick (isDone (issueAnswer line words .0)) (issuedBy (tableOf words) local ∷ []) [] ++ s .accepted
   unfolding eventsOf afterAll after issueAnswer frameFits
-  issue-accepted = by (issueRead (bytesOf line) .ok) (leb (length (hexLine (frameBytes (issuedBy (tableOf words) local)))) (length (zeros 147))) fitted
+  issue-accepted = by (issueRead (bytesOf line) .ok) (leb (length (hexLine (frameBytes (issuedBy (tableOf words) local)))) (length (zeros longestFrame))) fitted
     where
-      fitted : leb (length (hexLine (frameBytes (issuedBy (tableOf words) local)))) (length (zeros 147)) ≡ true
-      fitted = rw zeros-frame (le-leb (length (hexLine (frameBytes (issuedBy (tableOf words) local)))) 147 (frame-room words (checked words (H .held)) local))
+      fitted : leb (length (hexLine (frameBytes (issuedBy (tableOf words) local)))) (length (zeros longestFrame)) ≡ true
+      fitted = rw zeros-frame (le-leb (length (hexLine (frameBytes (issuedBy (tableOf words) local)))) longestFrame (frame-room words (checked words (H .held)) local))
 
       by : (b c : Bool) → c ≡ true → afterAll (pick (b && c) (history.issues local ∷ []) []) s .accepted ≡ pick (isDone (pick b (issuedBytes words (meaning.issue (tableOf words) local)) (refusalBytes 1, words) .0)) (issuedBy (tableOf words) local ∷ []) [] ++ s .accepted
       by true true e = issue-taken
@@ -232,11 +232,11 @@ module _ (line words : List ℕ) (s : Station) (H : Holds words s) where
       ∙ ap (λ (q : List ℕ × List ℕ). pick (isDone (q .0)) (offeredBy line words) [] ++ s .accepted) (sym (on-table line words (H .held)))
     where
       by : (a b c d e : Bool) →
-          afterAll (eventsOfAll (pick a (receives line ∷ []) (pick b (issues line (zeros 147) ∷ []) (pick c (settles line ∷ []) []))) words) s .accepted
+          afterAll (eventsOfAll (pick a (receives line ∷ []) (pick b (issues line (zeros longestFrame) ∷ []) (pick c (settles line ∷ []) []))) words) s .accepted
           ≡ pick (isDone (pick a (receivedBytes (receivedOn line words .0), receivedOn line words .1) (pick b (issueAnswer line words) (pick c (settledBytes (settledOn line words .0), settledOn line words .1) (pick d (questionAnswer line words, words) (pick e (secondOpening line, words) (refusalBytes 1, words))))) .0))
           (pick a (frame .operation ∷ []) (pick b (issuedBy (tableOf words) local ∷ []) [])) [] ++ s .accepted
       by true b c d e = one-event (receives line) ∙ frame-accepted
-      by false true c d e = one-event (issues line (zeros 147)) ∙ issue-accepted
+      by false true c d e = one-event (issues line (zeros longestFrame)) ∙ issue-accepted
       by false false true d e = one-event (settles line) ∙ settle-accepted ∙ none-offered (isDone (settledBytes (settledOn line words .0)))
       by false false false true e = none-offered (isDone (questionAnswer line words))
       by false false false false true = none-offered (isDone (secondOpening line))
@@ -338,8 +338,8 @@ module _ (line before words : List ℕ) (O : OpenedBy line before words) where
     unfolding questionAnswer meantAnswer
     every-answer asking type =
         let asked = askedFrom (questionRead (bytesOf asking) .object) (questionRead (bytesOf asking) .question) (questionRead (bytesOf asking) .value) in
-        let reply : meaning.ask (tableOf now) 512 asked ≡ meaning.meant header accepted 512 asked =
-        reply-meant header (opening-in-range line before words opened-fresh) events now lines-hold 512 asked ∙ ap (λ (l : List Operation). meaning.meant header l 512 asked) accepted-is in
+        let reply : meaning.ask (tableOf now) mostRows asked ≡ meaning.meant header accepted mostRows asked =
+        reply-meant header (opening-in-range line before words opened-fresh) events now lines-hold mostRows asked ∙ ap (λ (l : List Operation). meaning.meant header l mostRows asked) accepted-is in
         question-on asking now (lines-hold .held) type
         ∙ ap (λ (r : meaning.Reply). (pick (questionRead (bytesOf asking) .ok) (replyBytes r) (refusalBytes 1), now)) reply
 
@@ -378,9 +378,9 @@ module _ (line before words : List ℕ) (O : OpenedBy line before words) (lines 
   unfolding questionAnswer
   equal-answers asking type =
       let asked = askedFrom (questionRead (bytesOf asking) .object) (questionRead (bytesOf asking) .question) (questionRead (bytesOf asking) .value) in
-      let reply : meaning.ask (tableOf here) 512 asked ≡ meaning.ask (tableOf there) 512 asked =
+      let reply : meaning.ask (tableOf here) mostRows asked ≡ meaning.ask (tableOf there) mostRows asked =
       reply-agrees (header line before words O) (opening-in-range line before words (opened-fresh line before words O)) (events line before words O lines) here H
-      (header line′ before′ words′ O′) (opening-in-range line′ before′ words′ (opened-fresh line′ before′ words′ O′)) (events line′ before′ words′ O′ lines′) there H′ objects (same to) (same′ from) 512 asked in
+      (header line′ before′ words′ O′) (opening-in-range line′ before′ words′ (opened-fresh line′ before′ words′ O′)) (events line′ before′ words′ O′ lines′) there H′ objects (same to) (same′ from) mostRows asked in
       ap (λ (q : List ℕ × List ℕ). q .0) (question-on asking here (H .held) type)
       ∙ ap (λ (r : meaning.Reply). pick (questionRead (bytesOf asking) .ok) (replyBytes r) (refusalBytes 1)) reply
       ∙ sym (ap (λ (q : List ℕ × List ℕ). q .0) (question-on asking there (H′ .held) type))
@@ -428,10 +428,10 @@ never-eleven line words held type e = by (questionRead (bytesOf line) .ok) (sym 
     asked : asks.Asked
     asked = askedFrom object asking value
 
-    told : replyBytes (meaning.ask (tableOf words) 512 asked) ≡ refusalBytes 11 → ⊥
+    told : replyBytes (meaning.ask (tableOf words) mostRows asked) ≡ refusalBytes 11 → ⊥
     told f = chain-not-eleven (asks.byRows (tableOf words)) asked (not (wellAsked asked)) (not (declared (tableOf words .header) object)) (not (asks.fits asking (kindIn (tableOf words .header) object)))
         (subst (λ (d : Bool). replyBytes (chain (asks.byRows (tableOf words)) asked (not (wellAsked asked)) (not (declared (tableOf words .header) object)) (not (asks.fits asking (kindIn (tableOf words .header) object))) d) ≡ refusalBytes 11) (never-long words (checked words held) object asking value) f)
 
-    by : (b : Bool) → pick b (replyBytes (meaning.ask (tableOf words) 512 asked)) (refusalBytes 1) ≡ refusalBytes 11 → ⊥
+    by : (b : Bool) → pick b (replyBytes (meaning.ask (tableOf words) mostRows asked)) (refusalBytes 1) ≡ refusalBytes 11 → ⊥
     by true f = told f
     by false f = omega (arith, numbers-apart 1 (omega arith) f)

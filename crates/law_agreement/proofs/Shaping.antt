@@ -9,22 +9,23 @@ use lib.ListN.{length, take, drop, replicate}
 use borrow.Author.Tests.{lt-ltb}
 use Rattle.meaning.specs.Tests.{every}
 use Rattle.meaning.specs.Order.{entryLimit}
-use Rattle.meaning.specs.Table.{Header}
+use Rattle.meaning.specs.Table.{Header, greatestSize}
 use Rattle.meaning.specs.Refusals.{wellShaped}
 use Rattle.meaning.proofs.Tests.{and-both, and-fails, and-left, and-right}
 use Rattle.line_hex.specs.Choice.{pick}
 use Rattle.line_hex.specs.Decoding.{isLine, pairs}
 use Rattle.line_hex.specs.Numbers.{AllBytes, numberFrom, numberOf}
 use Rattle.line_hex.proofs.Bytes.{all-bytes-drop}
-use Rattle.line_shape.specs.Reading.{entries, fieldsRead, hasShape, mostStations, padded, sizeOf, startsWith, unread}
+use Rattle.line_shape.specs.Reading.{entries, fieldsRead, hasShape, padded, sizeOf, startsWith, unread}
 use Rattle.line_shape.specs.Shapes.{lengthOf, read}
 use Rattle.line_shape.specs.declared.Fields.{Fields}
-use Rattle.line_read.specs.Types.{Line, headOf, isOf, lineRead, opening, operation, issue, settling, question, printing}
+use Rattle.line_read.specs.Types.{Line, headOf, isOf, lineRead, opening, operation, issue, settling, question, printing, longest}
 use Rattle.line_read.specs.Named.{countOf, stationsOf, openingOf, issueRead, openingRead, operationRead, printingRead, questionRead, settlingRead}
 use Rattle.line_read.proofs.Named.{operation-stations, operation-vector-length}
 use Rattle.line_decode.specs.Decoding.{bytesOf}
 use Rattle.call_checked.specs.Called.{frameOf}
 use Rattle.law_agreement.specs.Conditions.{isLineOf}
+use Rattle.words_layout.specs.Words.{wordLimit}
 
 -- no bytes are no line
 none-of : (type : Line) (more : ℕ) → isOf type more [] ≡ false
@@ -33,20 +34,20 @@ none-of type more = and-fails (eqb 0 (lengthOf (headOf type) + type .each * more
 
 line-of : (type : Line) (more : ℕ) (line : List ℕ) → isLineOf type more line ≡ isOf type more (bytesOf line)
 unfolding isLineOf bytesOf
-line-of type more line = by (isLine 261 line)
+line-of type more line = by (isLine longest line)
   where
-    by : (b : Bool) → (b && isOf type more (pick b (pairs 261 line) [])) ≡ isOf type more (pick b (pairs 261 line) [])
+    by : (b : Bool) → (b && isOf type more (pick b (pairs longest line) [])) ≡ isOf type more (pick b (pairs longest line) [])
     by true = refl
     by false = sym (none-of type more)
 
 -- a line of vectors: at most 16 entries, and its shape
-fields-ok : (type : Line) → type .each ≡ 4 → (stations : ℕ) (bytes : List ℕ) → lineRead type stations bytes .ok ≡ (leb stations 16 && isOf type stations bytes)
+fields-ok : (type : Line) → type .each ≡ 4 → (stations : ℕ) (bytes : List ℕ) → lineRead type stations bytes .ok ≡ (leb stations greatestSize && isOf type stations bytes)
 unfolding lineRead fieldsRead isOf
-fields-ok type four stations bytes = by (leb stations 16 && hasShape (type .typeByte) (sizeOf (headOf type) stations) bytes)
-    ∙ ap (λ (w : ℕ). leb stations 16 && hasShape (type .typeByte) (lengthOf (headOf type) + w * stations) bytes) (sym four)
+fields-ok type four stations bytes = by (leb stations greatestSize && hasShape (type .typeByte) (sizeOf (headOf type) stations) bytes)
+    ∙ ap (λ (w : ℕ). leb stations greatestSize && hasShape (type .typeByte) (lengthOf (headOf type) + w * stations) bytes) (sym four)
   where
     whole : Fields
-    whole = record { ok = true; head = padded 6 (read (headOf type) bytes); vector = padded 16 (entries stations (drop (lengthOf (headOf type)) bytes)) }
+    whole = record { ok = true; head = padded 6 (read (headOf type) bytes); vector = padded greatestSize (entries stations (drop (lengthOf (headOf type)) bytes)) }
 
     by : (b : Bool) → pick b whole unread .ok ≡ b
     by true = refl
@@ -80,9 +81,9 @@ module _ (line : List ℕ) where
   unfolding printingRead
   printing-shaped = sym (line-of printing 0 line)
 
-  pub operation-shaped : operationRead bytes .ok ≡ (leb (stationsOf bytes) 16 && isLineOf operation (stationsOf bytes) line)
+  pub operation-shaped : operationRead bytes .ok ≡ (leb (stationsOf bytes) greatestSize && isLineOf operation (stationsOf bytes) line)
   unfolding operationRead
-  operation-shaped = fields-ok operation refl (stationsOf bytes) bytes ∙ ap (λ (b : Bool). leb (stationsOf bytes) 16 && b) (sym (line-of operation (stationsOf bytes) line))
+  operation-shaped = fields-ok operation refl (stationsOf bytes) bytes ∙ ap (λ (b : Bool). leb (stationsOf bytes) greatestSize && b) (sym (line-of operation (stationsOf bytes) line))
 
 -- fields of one byte and of four
 pub one-byte : (bs : List ℕ) → AllBytes bs → numberOf (take 1 bs) < 256
@@ -90,7 +91,7 @@ unfolding AllBytes numberFrom
 one-byte [] h = omega arith
 one-byte (a ∷ bs) h = omega (arith, h .0)
 
-pub four-bytes : (bs : List ℕ) → AllBytes bs → numberOf (take 4 bs) < 4294967296
+pub four-bytes : (bs : List ℕ) → AllBytes bs → numberOf (take 4 bs) < wordLimit
 unfolding AllBytes numberFrom
 four-bytes [] h = omega arith
 four-bytes (a ∷ []) h = omega (arith, h .0)
@@ -123,14 +124,14 @@ small-take (suc n) (x ∷ l) h = and-both (small x) (every small (take n l)) (an
 module _ (bytes : List ℕ) (h : AllBytes bytes) where
   small-vector : every small (operationRead bytes .vector) ≡ true
   unfolding operationRead lineRead fieldsRead padded entries
-  small-vector = by (leb (stationsOf bytes) mostStations && hasShape 32 (sizeOf (headOf operation) (stationsOf bytes)) bytes)
+  small-vector = by (leb (stationsOf bytes) greatestSize && hasShape 32 (sizeOf (headOf operation) (stationsOf bytes)) bytes)
     where
       vector : List ℕ
       vector = read (replicate (stationsOf bytes) 4) (drop (lengthOf (headOf operation)) bytes)
 
-      by : (b : Bool) → every small (pick b (record { ok = true; head = padded 6 (read (headOf operation) bytes); vector = vector ++ replicate (16 - length vector) 0 }) unread .vector) ≡ true
-      by true = small-append vector (replicate (16 - length vector) 0) (small-read (stationsOf bytes) (drop (lengthOf (headOf operation)) bytes) (all-bytes-drop (lengthOf (headOf operation)) bytes h)) (small-zeros (16 - length vector))
-      by false = small-zeros 16
+      by : (b : Bool) → every small (pick b (record { ok = true; head = padded 6 (read (headOf operation) bytes); vector = vector ++ replicate (greatestSize - length vector) 0 }) unread .vector) ≡ true
+      by true = small-append vector (replicate (greatestSize - length vector) 0) (small-read (stationsOf bytes) (drop (lengthOf (headOf operation)) bytes) (all-bytes-drop (lengthOf (headOf operation)) bytes h)) (small-zeros (greatestSize - length vector))
+      by false = small-zeros greatestSize
 
   -- "a frame's N not the table's" is all that is left of 1 where the line is right
   pub frame-shaped : operationRead bytes .ok ≡ true → (header : Header) → wellShaped header (frameOf (operationRead bytes)) ≡ eqb (stationsOf bytes) (header .size)

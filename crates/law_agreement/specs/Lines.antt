@@ -7,7 +7,7 @@ use Prim.Native.Nat.{ℕ}
 use lib.Dec.{eqb}
 use lib.ListN.{length, take}
 use Rattle.meaning.specs.Operations as meant
-use Rattle.meaning.specs.Table.{Header, greatestCapacity, zeros}
+use Rattle.meaning.specs.Table.{Header, mostRows, zeros}
 use Rattle.meaning.specs.Refusals.{issuedBy}
 use Rattle.meaning.specs.Calls as meaning
 use Rattle.words_layout.specs.Layout.{holdsTable, tableOf}
@@ -16,7 +16,7 @@ use Rattle.question.specs.declared.Reply.{Reply}
 use Rattle.question.specs.declared.Reply.the-variants as reply
 use Rattle.line_hex.specs.Choice.{pick}
 use Rattle.line_hex.specs.Hex.{figureZero, hexLine}
-use Rattle.line_read.specs.Types.{count, flag, issue, lineOf, opening, operation, printing, question, settling, sum}
+use Rattle.line_read.specs.Types.{count, flag, issue, lineOf, opening, operation, printing, question, settling, sum, longestFrame}
 use Rattle.line_read.specs.Named.{issueRead, operationRead, questionRead}
 use Rattle.line_decode.specs.Decoding.{bytesOf}
 use Rattle.call_question.specs.AnswerBytes.{listBytes, refusalBytes, replyBytes}
@@ -72,12 +72,8 @@ unfoldable pub meantAnswer : Header → List meant.Operation → List ℕ → Li
 meantAnswer header operations line =
     let asked = questionRead (bytesOf line) in
     pick (asked .ok)
-    (replyBytes (meaning.meant header operations greatestCapacity (askedFrom (asked .object) (asked .question) (asked .value))))
+    (replyBytes (meaning.meant header operations mostRows (askedFrom (asked .object) (asked .question) (asked .value))))
     (refusalBytes 1)
-
--- The characters of the longest frame's line.
-abbrev pub longestFrame : ℕ
-longestFrame = 147
 
 -- The call that a line is at a table: a question, a second opening and a line of unknown type change nothing.
 unfoldable pub callsOf : List ℕ → List Call
@@ -116,7 +112,7 @@ pub record ByType (line words : List ℕ) : Type 0 where
   pub frame : typeOf line ≡ operation .typeByte → answerOf line words ≡ changing receivedBytes (receivedBy line words)
   pub local : typeOf line ≡ issue .typeByte → (hexLine (answerOf line words .0), answerOf line words .1) ≡ issuedAnswer (calls.issuedBy line words (zeros longestFrame))
   pub settled : typeOf line ≡ settling .typeByte → answerOf line words ≡ changing settledBytes (settledBy line words)
-  pub asked : typeOf line ≡ question .typeByte → answerOf line words ≡ (repliedAnswer (repliedBy line words (zeros greatestCapacity)), words)
+  pub asked : typeOf line ≡ question .typeByte → answerOf line words ≡ (repliedAnswer (repliedBy line words (zeros mostRows)), words)
   pub opened : typeOf line ≡ opening .typeByte → holdsTable words ≡ false → answerOf line words ≡ changing openedBytes (openedBy line words)
   pub second : typeOf line ≡ opening .typeByte → holdsTable words ≡ true → answerOf line words ≡ (secondOpening line, words)
   -- that answer is the one output line

@@ -14,7 +14,7 @@ use Rattle.line_hex.specs.Choice.{pick}
 use Rattle.line_hex.specs.Decoding.{isLine, pairs}
 use Rattle.line_shape.specs.Reading.{hasShape, startsWith}
 use Rattle.line_shape.specs.Shapes.{lengthOf}
-use Rattle.line_read.specs.Types.{headOf, isOf, opening}
+use Rattle.line_read.specs.Types.{headOf, isOf, opening, longest}
 use Rattle.line_read.specs.Named.{countOf}
 use Rattle.line_read.specs.SavedNamed.{closingRead, rowRead}
 use Rattle.line_decode.specs.Decoding.{bytesOf, typeOf}
@@ -34,10 +34,10 @@ use Rattle.law_continued.specs.LoadConditions.{beginConditions, beginRes
 -- a line of an opening's shape is of its type
 opening-type : (line : List ℕ) (more : ℕ) → isLineOf opening more line ≡ true → typeOf line ≡ 16
 unfolding isLineOf isOf hasShape bytesOf startsWith
-opening-type line more e = by (isLine 261 line) (and-right (isLine 261 line) (isOf opening more (bytesOf line)) e)
+opening-type line more e = by (isLine longest line) (and-right (isLine longest line) (isOf opening more (bytesOf line)) e)
   where
-    by : (b : Bool) → (eqb (length (pick b (pairs 261 line) [])) (lengthOf (headOf opening) + 1 * more) && startsWith 16 (pick b (pairs 261 line) [])) ≡ true → typeOf line ≡ 16
-    by true f = starts-type 260 16 line (and-right (eqb (length (pairs 261 line)) (lengthOf (headOf opening) + 1 * more)) (startsWith 16 (pairs 261 line)) f)
+    by : (b : Bool) → (eqb (length (pick b (pairs longest line) [])) (lengthOf (headOf opening) + 1 * more) && startsWith 16 (pick b (pairs longest line) [])) ≡ true → typeOf line ≡ 16
+    by true f = starts-type (longest - 1) 16 line (and-right (eqb (length (pairs longest line)) (lengthOf (headOf opening) + 1 * more)) (startsWith 16 (pairs longest line)) f)
     by false f = absurd (false≢true (sym (none (eqb 0 (lengthOf (headOf opening) + 1 * more))) ∙ f))
       where
         none : (b : Bool) → (b && false) ≡ false

@@ -6,7 +6,7 @@ use Prim.Native.Nat.{ℕ, _≤_}
 use lib.ListN.{drop, length}
 use Rattle.meaning.specs.Operations.{Operation}
 use Rattle.meaning.specs.Rows.{unsettledCount}
-use Rattle.meaning.specs.Table.{Header, Table, inRange, isTable}
+use Rattle.meaning.specs.Table.{Header, Table, inRange, isTable, mostRows}
 use Rattle.meaning.specs.Calls as meaning
 use Rattle.meaning.specs.History.{Event, Station, afterAll, reached}
 use Rattle.meaning.proofs.Agreement.{Within}
@@ -124,8 +124,8 @@ module _ (line before words : List ℕ) (O : OpenedBy line before words) (acts :
   unfolding questionAnswer meantAnswer
   continues asking type =
       let asked = askedFrom (questionRead (bytesOf asking) .object) (questionRead (bytesOf asking) .question) (questionRead (bytesOf asking) .value) in
-      let reply : meaning.ask (tableOf now) 512 asked ≡ meaning.meant header (acceptedByActs acts words []) 512 asked =
-      reply-meant header (opening-in-range line before words (opened-fresh line before words O)) events now continued-holds 512 asked ∙ ap (λ (l : List Operation). meaning.meant header l 512 asked) accepted-is in
+      let reply : meaning.ask (tableOf now) mostRows asked ≡ meaning.meant header (acceptedByActs acts words []) mostRows asked =
+      reply-meant header (opening-in-range line before words (opened-fresh line before words O)) events now continued-holds mostRows asked ∙ ap (λ (l : List Operation). meaning.meant header l mostRows asked) accepted-is in
       question-on asking now (continued-holds .held) type
       ∙ ap (λ (r : meaning.Reply). (pick (questionRead (bytesOf asking) .ok) (replyBytes r) (refusalBytes 1), now)) reply
 
@@ -171,7 +171,7 @@ module _ (line before words : List ℕ) (O : OpenedBy line before words) (acts :
       let asked = askedFrom (questionRead (bytesOf asking) .object) (questionRead (bytesOf asking) .question) (questionRead (bytesOf asking) .value) in
       ap (λ (q : List ℕ × List ℕ). q .0) (question-on asking here (H .held) type)
       ∙ ap (λ (r : meaning.Reply). pick (questionRead (bytesOf asking) .ok) (replyBytes r) (refusalBytes 1))
-      (reply-agrees (headerRead (bytesOf line)) ranged (events line before words O acts fits) here H (headerRead (bytesOf line′)) ranged′ (events line′ before′ words′ O′ acts′ fits′) there H′ objects forth back 512 asked)
+      (reply-agrees (headerRead (bytesOf line)) ranged (events line before words O acts fits) here H (headerRead (bytesOf line′)) ranged′ (events line′ before′ words′ O′ acts′ fits′) there H′ objects forth back mostRows asked)
       ∙ sym (ap (λ (q : List ℕ × List ℕ). q .0) (question-on asking there (H′ .held) type))
 
   pub continued-rows : headerRead (bytesOf line) .size ≡ headerRead (bytesOf line′) .size → unsettledCount (tableOf here .rows) ≡ 0 → unsettledCount (tableOf there .rows) ≡ 0 → rowsIn here ≡ rowsIn there

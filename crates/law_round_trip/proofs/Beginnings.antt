@@ -11,7 +11,7 @@ use lib.ListN.{drop, getD, length, length-append, length-replicate, replicate, s
 use borrow.Author.Tests.{eq-eqb, eqb-true, leb-true, ne-eqb}
 use Rattle.meaning.specs.Tests.{every}
 use Rattle.meaning.specs.Order.{Vector, entryLimit, same}
-use Rattle.meaning.specs.Table.{Header, Table, isTable, opened, totalBound, zeros}
+use Rattle.meaning.specs.Table.{Header, Table, isTable, opened, totalBound, zeros, greatestSize}
 use Rattle.meaning.proofs.Tests.{and-left, and-right}
 use Rattle.meaning.proofs.Vectors.{at-most-refl}
 use Rattle.meaning.proofs.TableFacts.{facts}
@@ -23,7 +23,7 @@ use Rattle.line_hex.specs.Hex.{hexLine}
 use Rattle.line_hex.specs.Numbers.{AllBytes}
 use Rattle.line_shape.specs.Shapes.{Fitting, lengthOf}
 use Rattle.line_shape.specs.Reading as shapes
-use Rattle.line_read.specs.Types.{lastVector}
+use Rattle.line_read.specs.Types.{lastVector, longest, longestVectorLine}
 use Rattle.line_read.proofs.Lengths.{line-length}
 use Rattle.line_read.specs.SavedNamed.{clockRead, lastRead, totalRead}
 use Rattle.line_read.proofs.SavedNamed.{last-reads-back}
@@ -54,15 +54,15 @@ use Rattle.law_round_trip.proofs.Places.{last-other}
 use Rattle.law_round_trip.proofs.Keeps.{Keeps, keeps-clock, keeps-last, keeps-total, table-there, zero-kept}
 use Rattle.law_round_trip.proofs.EachRule.{SoFar, all-taken, closed-in}
 
-heard : (line : List ℕ) → AllBytes line → length line ≤ 73 → bytesOf (hexLine line) ≡ line
-heard line all short = bytes-back line (replicate 261 0) all (length-replicate {A = ℕ} 261 0) (omega arith)
+heard : (line : List ℕ) → AllBytes line → length line ≤ longestVectorLine → bytesOf (hexLine line) ≡ line
+heard line all short = bytes-back line (replicate longest 0) all (length-replicate {A = ℕ} longest 0) (omega arith)
 
 -- a line that is taken: D of zeros, D again as a last vector, a total of 0
-last-short : (k : ℕ) (v : Vector) → length v ≤ 16 → length (lastLine k v) ≤ 73
+last-short : (k : ℕ) (v : Vector) → length v ≤ greatestSize → length (lastLine k v) ≤ longestVectorLine
 unfolding lastLine lengthOf
 last-short k v few = omega (arith, line-length lastVector (k ∷ []) v refl)
 
-last-read : (size k : ℕ) (v : Vector) → length v ≡ size → size ≤ 16 → k < size → every (λ (entry : ℕ). ltb entry entryLimit) v ≡ true → lastRead size (lastLine k v) ≡ record { ok = true; station = k; vector = shapes.padded 16 v }
+last-read : (size k : ℕ) (v : Vector) → length v ≡ size → size ≤ greatestSize → k < size → every (λ (entry : ℕ). ltb entry entryLimit) v ≡ true → lastRead size (lastLine k v) ≡ record { ok = true; station = k; vector = shapes.padded greatestSize v }
 unfolding lastLine Fitting
 last-read size k v long few b small = rw (sym long) (last-reads-back v (omega arith) k (omega arith, (omega arith, fit-each 4 v (below-every v small))))
 
@@ -110,7 +110,7 @@ module _ (p : ℕ) (t : Table) (rest : List ℕ) (K : Keeps p t) (u : underLoad 
   more-last k c =
       let v = t .clock in
       let long : length v ≡ size = F .well .fit .clock-long in
-      let few : size ≤ 16 = F .sized .few in
+      let few : size ≤ greatestSize = F .sized .few in
       let none : length (t .rows) ≡ 0 = eqb-true (length (t .rows)) 0 (waiting t F rest p u (next.Last (record { 0 = k })) c) in
       let within : k < size = station-in t F rest p u k c in
       let kept : lastKept (t .header .own) v k v ≡ true = rw (ne-eqb k (t .header .own) (last-other (t .header) (F .ranged) p k c), eq-eqb (getD v k 0) (getD v k 0) refl) (at-most-refl v) in

@@ -24,7 +24,7 @@ use Rattle.arrival.proofs.Kept.{well-table}
 use Rattle.table_rules_clock.specs.ClockTests.{lastKept, totalKept}
 use Rattle.line_hex.specs.Hex.{hexLine}
 use Rattle.line_hex.specs.Numbers.{AllBytes}
-use Rattle.line_read.specs.Types.{clock, lastVector, total}
+use Rattle.line_read.specs.Types.{clock, lastVector, total, longest}
 use Rattle.line_read.proofs.Spelling.{all-bytes-line-of}
 use Rattle.line_decode.specs.Decoding.{bytesOf}
 use Rattle.line_decode.proofs.Decoding.{bytes-back}
@@ -201,7 +201,7 @@ module _ (t : Table) (is : isTable t ≡ true) (rest : List ℕ) where
   clock-taken = clock-step (opened (t .header)) fresh-opened rest 1 (hexLine (clockLine (t .clock))) refl refl (t .clock) (F .clock-length) (ap (clockRead size) heard ∙ clock-back t is)
     where
       heard : bytesOf (hexLine (clockLine (t .clock))) ≡ clockLine (t .clock)
-      heard = bytes-back (clockLine (t .clock)) (replicate 261 0) (clock-bytes (t .clock)) (length-replicate {A = ℕ} 261 0) (omega (arith, clock-short t is))
+      heard = bytes-back (clockLine (t .clock)) (replicate longest 0) (clock-bytes (t .clock)) (length-replicate {A = ℕ} longest 0) (omega (arith, clock-short t is))
 
   -- `51`, for each other station from one on
   abbrev not-own : ℕ → Bool
@@ -258,7 +258,7 @@ module _ (t : Table) (is : isTable t ≡ true) (rest : List ℕ) where
       let number : others own (suc k) ≡ suc (others own k) = cases (leb k own) (λ s. let less : k < own = omega (arith, leb-true k own s, other) in rw (s, le-leb (suc k) own less) refl) (λ s. let more = leb-false k own s in rw (s, lt-leb (suc k) own (omega arith)) (omega arith)) in
       let v = getD (t .last) k [] in
       let line = hexLine (lastLine k v) in
-      let heard : bytesOf line ≡ lastLine k v = bytes-back (lastLine k v) (replicate 261 0) (last-bytes k v) (length-replicate {A = ℕ} 261 0) (omega (arith, last-short t is k b)) in
+      let heard : bytesOf line ≡ lastLine k v = bytes-back (lastLine k v) (replicate longest 0) (last-bytes k v) (length-replicate {A = ℕ} longest 0) (omega (arith, last-short t is k b)) in
       let step = last-step (lasts-at k) (fresh-lasts k) rest (suc (suc (others own k))) line refl k b (next-last k b other) v (last-known t is k b .0) (last-held k b other) (ap (lastRead size) heard ∙ last-back t is k b) in
       rw q (first-taken line (map hexLine (linesOf not-own lastLine (suc k) (drop (suc k) (t .last)))) (under (suc (suc (others own k))) (lasts-at k) rest) (under (suc (suc (others own (suc k)))) (lasts-at (suc k)) rest) behind-lasts
       (step ∙ ap₂ (λ (i : ℕ) (l : List Vector). (loaded.Taken, under (suc (suc i)) (parts (t .clock) l no-totals []) rest)) (sym number) (mixed-set (t .last) no-last [] k here there))
@@ -333,7 +333,7 @@ module _ (t : Table) (is : isTable t ≡ true) (rest : List ℕ) where
       let progress : counted (suc k) ≡ suc (counted k) = omega (arith, number) in
       let z = getD (t .totals) k (pos 0) in
       let line = hexLine (totalLine k z) in
-      let heard : bytesOf line ≡ totalLine k z = bytes-back (totalLine k z) (replicate 261 0) (total-bytes k z) (length-replicate {A = ℕ} 261 0) (omega (arith, total-short t is k z)) in
+      let heard : bytesOf line ≡ totalLine k z = bytes-back (totalLine k z) (replicate longest 0) (total-bytes k z) (length-replicate {A = ℕ} longest 0) (omega (arith, total-short t is k z)) in
       let step = total-step (totals-at k) (fresh-totals k) rest (counted k) line refl k b (next-total k b q) z (each-range (t .totals) (W .range) k here) (total-held k b) (ap totalRead heard ∙ total-back t is k z b) in
       rw q (first-taken line rest-lines (under (counted k) (totals-at k) rest) (under (counted (suc k)) (totals-at (suc k)) rest) behind-totals
       (step ∙ ap₂ (λ (i : ℕ) (l : List ℤ). (loaded.Taken, under i (parts (t .clock) (t .last) l []) rest)) (sym progress) (mixed-set (t .totals) no-totals (pos 0) k here there))

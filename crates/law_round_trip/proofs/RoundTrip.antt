@@ -9,7 +9,7 @@ use borrow.Author.Tests.{le-ltb}
 use lib.ListN.{getD, length, drop, replicate, length-replicate, length-append, length-map}
 use Rattle.meaning.specs.Rows.{Row}
 use Rattle.meaning.specs.Tests.{every}
-use Rattle.meaning.specs.Table.{Header, Table, isTable, kindIn, opened, rowRule, tableRules}
+use Rattle.meaning.specs.Table.{Header, Table, isTable, kindIn, opened, rowRule, tableRules, greatestSize}
 use Rattle.meaning.specs.Refusals.{openingRefusals}
 use Rattle.meaning.specs.Calls.{fresh, openTable}
 use Rattle.meaning.proofs.Tests.{and-left, and-right, rule-at}
@@ -31,7 +31,7 @@ use Rattle.line_shape.specs.declared.Fields.{Fields}
 use Rattle.line_shape.specs.Reading.{entries, fieldsRead, hasShape, padded, sizeOf, startsWith, unread}
 use Rattle.line_shape.specs.Shapes.{lengthOf, read, written}
 use Rattle.line_put.specs.Writing.{lineBytes}
-use Rattle.line_read.specs.Types.{opening, row, closing, headOf, lineRead}
+use Rattle.line_read.specs.Types.{opening, row, closing, headOf, lineRead, longest}
 use Rattle.line_read.proofs.Spelling.{all-bytes-line-of}
 use Rattle.line_decode.specs.Decoding.{bytesOf, typeOf}
 use Rattle.line_decode.proofs.Decoding.{bytes-back}
@@ -104,9 +104,9 @@ closing-bytes n = all-bytes-line-of closing _ _
 -- a line of another type has no row's shape
 pub no-shape : (widths : List ℕ) (stations : ℕ) (bytes : List ℕ) → startsWith 83 bytes ≡ false → fieldsRead 83 widths stations bytes .ok ≡ false
 unfolding fieldsRead hasShape
-no-shape widths stations bytes e = rw e (by (leb stations 16) (eqb (length bytes) (sizeOf widths stations)))
+no-shape widths stations bytes e = rw e (by (leb stations greatestSize) (eqb (length bytes) (sizeOf widths stations)))
   where
-    by : (a b : Bool) → pick {A = Fields} (a && (b && false)) (record { ok = true; head = padded 6 (read widths bytes); vector = padded 16 (entries stations (drop (lengthOf widths) bytes)) }) unread .ok ≡ false
+    by : (a b : Bool) → pick {A = Fields} (a && (b && false)) (record { ok = true; head = padded 6 (read widths bytes); vector = padded greatestSize (entries stations (drop (lengthOf widths) bytes)) }) unread .ok ≡ false
     by true true = refl
     by true false = refl
     by false b = refl
@@ -161,7 +161,7 @@ module _ (t : Table) (is : isTable t ≡ true) (rest : List ℕ) where
       let chain : chained (follows (t .header .kinds)) (map (rowWords size) done ++ (rowWords size r ∷ map (rowWords size) left)) ≡ true = subst (λ (l : List (List ℕ)). chained (follows (t .header .kinds)) l ≡ true) (ap (map (rowWords size)) (sym e) ∙ map-append (rowWords size) done (r ∷ left)) rows-chained in
       let many : length (map (rowWords size) done) ≡ length done = length-map done (rowWords size) in
       let line = hexLine (rowLine size r) in
-      let heard : bytesOf line ≡ rowLine size r = bytes-back (rowLine size r) (replicate 261 0) (row-bytes size r) (length-replicate {A = ℕ} 261 0) (omega (arith, row-short t is r m)) in
+      let heard : bytesOf line ≡ rowLine size r = bytes-back (rowLine size r) (replicate longest 0) (row-bytes size r) (length-replicate {A = ℕ} longest 0) (omega (arith, row-short t is r m)) in
       let step = row-step (rows-at done) (fresh-rows done (r ∷ left) e) rest progress line (next-rows t is rest) r few (row-small t is r m) room kept
       (λ some. rw (sym many) (chained-at (follows (t .header .kinds)) (map (rowWords size) done) (rowWords size r) (map (rowWords size) left) chain (omega (arith, many)))) (ap (rowRead size) heard ∙ row-back t is r m) in
       first-taken line (map hexLine (map (rowLine size) left)) (under progress (rows-at done) rest) (under progress (rows-at (done ++ (r ∷ []))) rest) (under progress (rows-at (t .rows)) rest) step
@@ -181,7 +181,7 @@ module _ (t : Table) (is : isTable t ≡ true) (rest : List ℕ) where
   pub closing-at : (p : ℕ) → nextAfter size (t .header .own) (t .header .kinds) p ≡ next.Rows → loadedBy (hexLine (closingLine (length (t .rows)))) (under p t rest) ≡ (loaded.Table, wordsOf t ++ rest)
   closing-at p c =
       let line = closingLine (length (t .rows)) in
-      let heard : bytesOf (hexLine line) ≡ line = bytes-back line (replicate 261 0) (closing-bytes (length (t .rows))) (length-replicate {A = ℕ} 261 0) (omega (arith, closing-short t is)) in
+      let heard : bytesOf (hexLine line) ≡ line = bytes-back line (replicate longest 0) (closing-bytes (length (t .rows))) (length-replicate {A = ℕ} longest 0) (omega (arith, closing-short t is)) in
       close-step t fresh-whole rest p (hexLine line) c (rw heard closing-is-no-row) (ap closingRead heard ∙ closing-back t is) is
 
 -- `10`
@@ -201,7 +201,7 @@ module _ (t : Table) (is : isTable t ≡ true) (space : List ℕ) (no-load : und
   beyond = drop (spaceFor (t .header .size) (t .header .capacity)) space
 
   opening-heard : bytesOf line ≡ openingLine (t .header)
-  opening-heard = bytes-back (openingLine (t .header)) (replicate 261 0) (opening-bytes (t .header)) (length-replicate {A = ℕ} 261 0) (omega (arith, opening-short t is))
+  opening-heard = bytes-back (openingLine (t .header)) (replicate longest 0) (opening-bytes (t .header)) (length-replicate {A = ℕ} longest 0) (omega (arith, opening-short t is))
 
   header-back : headerRead (openingLine (t .header)) ≡ t .header
   unfolding headerRead

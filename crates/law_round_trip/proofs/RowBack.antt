@@ -11,11 +11,11 @@ use lib.Seq.{paste, length-take-le}
 use borrow.Author.Tests.{eq-eqb, eqb-true, ne-eqb, leb-true, ltb-true}
 use Rattle.meaning.specs.Order.{Vector}
 use Rattle.meaning.specs.Rows.{Row}
-use Rattle.meaning.specs.Table.{Table, settledOnly}
+use Rattle.meaning.specs.Table.{Table, settledOnly, greatestSize}
 use Rattle.meaning.specs.Calls.{withRows}
 use Rattle.meaning.proofs.Tests.{cases, and-left, and-right}
 use Rattle.words_layout.specs.Words as words
-use Rattle.words_layout.specs.Words.{allZero}
+use Rattle.words_layout.specs.Words.{allZero, wordLimit}
 use Rattle.words_layout.specs.Layout.{wordsOf, holdsTable, rowOf, rowWords}
 use Rattle.words_layout.proofs.Whole.{length-padded}
 use Rattle.words_layout.proofs.RowWords.{Shaped, Spelt, padded-all, row-written, short-row}
@@ -44,6 +44,7 @@ use Rattle.law_round_trip.proofs.Steps.{front-of}
 use Rattle.law_round_trip.proofs.RowLines.{by-rows, last-is, lineOfRow, row-step}
 use Rattle.law_round_trip.proofs.Heard.{heard-bytes, line-said, value-small, vector-padded}
 use Rattle.law_round_trip.proofs.StepsBack.{Took, fresh-row, refused}
+use Rattle.meaning.specs.Operations.{valueLimit}
 
 settled-back : (s : ℕ) → s ≤ 1 → cond (eqb (1 - s) 0) 1 0 ≡ s
 settled-back zero h = refl
@@ -51,7 +52,7 @@ settled-back (suc zero) h = refl
 settled-back (suc (suc s)) h = absurd (omega arith)
 
 -- the row that a line says by the rules
-module _ (size : ℕ) (f : saved.Row) (long : length (take size (f .vector)) ≡ size) (small : f .value < 4294967296) (flag : f .settled ≤ 1) (kinds : List ℕ) (clock : Vector) (kept : rowKept kinds clock (rowSaid size f) ≡ true) where
+module _ (size : ℕ) (f : saved.Row) (long : length (take size (f .vector)) ≡ size) (small : f .value < valueLimit) (flag : f .settled ≤ 1) (kinds : List ℕ) (clock : Vector) (kept : rowKept kinds clock (rowSaid size f) ≡ true) where
   abbrev v : List ℕ
   v = take size (f .vector)
 
@@ -89,12 +90,12 @@ module _ (size : ℕ) (f : saved.Row) (long : length (take size (f .vector)) ≡
   pub row-few : length (saidRow .operation .vector) ≤ size
   row-few = short-row size said (omega (arith, long))
 
-  pub row-low : saidRow .operation .value < 4294967296
+  pub row-low : saidRow .operation .value < valueLimit
   row-low = omega arith
 
-  pub said-line : f .ok ≡ true → f .vector ≡ shapes.padded 16 v → f ≡ lineOfRow size saidRow
+  pub said-line : f .ok ≡ true → f .vector ≡ shapes.padded greatestSize v → f ≡ lineOfRow size saidRow
   said-line ok e =
-      let value : 0 * 4294967296 + f .value ≡ f .value = omega arith in
+      let value : 0 * wordLimit + f .value ≡ f .value = omega arith in
       rw (vector-said, settled-back (f .settled) flag, value, sym e, sym ok) refl
 
 -- two tests one after the other are one
@@ -171,7 +172,7 @@ module _ (t : Table) (F : Fresh t) (rest : List ℕ) (p : ℕ) (line : List ℕ)
   row-taken ok long flag join =
       let f = rowRead size bytes in
       let J = joined (rowSaid size f) join in
-      let small : f .value < 4294967296 = value-small bytes (heard-bytes line) size in
+      let small : f .value < valueLimit = value-small bytes (heard-bytes line) size in
       let kinds = t .header .kinds in
       let r : Row = saidRow size f long small flag kinds (t .clock) (J .1 .0) in
       let spelt : rowWords size r ≡ rowSaid size f = words-said size f long small flag kinds (t .clock) (J .1 .0) in

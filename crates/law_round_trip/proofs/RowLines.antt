@@ -9,13 +9,13 @@ use lib.Dec.{eqb, leb}
 use lib.ListN.{getD, length, take, drop, set, replicate, length-map}
 use lib.Seq.{paste, drop-at, drop-drop, drop-set-lt}
 use borrow.Author.Tests.{eq-eqb, eqb-false, lt-ltb}
-use Rattle.meaning.specs.Operations.{numberOf}
+use Rattle.meaning.specs.Operations.{numberOf, valueLimit}
 use Rattle.meaning.specs.Rows.{Row}
-use Rattle.meaning.specs.Table.{Table, isTable}
+use Rattle.meaning.specs.Table.{Table, isTable, greatestSize}
 use Rattle.meaning.specs.Calls.{withRows}
 use Rattle.meaning.proofs.Tests.{cases}
 use Rattle.words_layout.specs.Words as words
-use Rattle.words_layout.specs.Words.{flat, pieces}
+use Rattle.words_layout.specs.Words.{flat, pieces, wordLimit}
 use Rattle.words_layout.specs.Layout.{wordsOf, frontWords, rowsWords, rowWords, rowWidth, rowsAt, countIn, holdsTable}
 use Rattle.words_layout.proofs.Pieces.{pieces-at}
 use Rattle.words_layout.proofs.Whole.{length-front, length-padded, wide-rows}
@@ -58,13 +58,13 @@ byte-low false = refl
 
 -- what a row's line says
 abbrev pub lineOfRow : ℕ → Row → saved.Row
-lineOfRow size r = record { ok = true; object = r .operation .object; code = r .operation .code; settled = cond (r .settled) 1 0; sender = r .operation .sender; value = r .operation .value; vector = shapes.padded 16 (words.padded size (r .operation .vector)) }
+lineOfRow size r = record { ok = true; object = r .operation .object; code = r .operation .code; settled = cond (r .settled) 1 0; sender = r .operation .sender; value = r .operation .value; vector = shapes.padded greatestSize (words.padded size (r .operation .vector)) }
 
-said-words : (size : ℕ) (r : Row) → length (r .operation .vector) ≤ size → r .operation .value < 4294967296 → rowSaid size (lineOfRow size r) ≡ rowWords size r
+said-words : (size : ℕ) (r : Row) → length (r .operation .vector) ≤ size → r .operation .value < valueLimit → rowSaid size (lineOfRow size r) ≡ rowWords size r
 unfolding rowSaid numberOf
 said-words size r few low =
-    let high : r .operation .value / 4294967296 ≡ 0 = omega arith in
-    let same : r .operation .value % 4294967296 ≡ r .operation .value = omega arith in
+    let high : r .operation .value / wordLimit ≡ 0 = omega arith in
+    let same : r .operation .value % wordLimit ≡ r .operation .value = omega arith in
     rw (front-of (words.padded size (r .operation .vector)) size (length-padded size (r .operation .vector) few), entry-padded (r .operation .vector) (size - length (r .operation .vector)) (r .operation .sender), byte-word (r .settled), high, same) refl
 
 module _ (t : Table) (F : Fresh t) (rest : List ℕ) (p : ℕ) (line : List ℕ) (c : nextAfter (t .header .size) (t .header .own) (t .header .kinds) p ≡ next.Rows) where
@@ -116,7 +116,7 @@ module _ (t : Table) (F : Fresh t) (rest : List ℕ) (p : ℕ) (line : List ℕ)
       ∙ ap (λ (l : List (List ℕ)). getD l k []) stand
 
   -- a row's line
-  module _ (r : Row) (few : length (r .operation .vector) ≤ size) (low : r .operation .value < 4294967296) (more : length (t .rows) < t .header .capacity)
+  module _ (r : Row) (few : length (r .operation .vector) ≤ size) (low : r .operation .value < valueLimit) (more : length (t .rows) < t .header .capacity)
       (kept : rowKept (t .header .kinds) (t .clock) (rowWords size r) ≡ true)
       (behind : 0 < length (t .rows) → follows (t .header .kinds) (getD written (length (t .rows) - 1) []) (rowWords size r) ≡ true) where
     wide : length (rowWords size r) ≡ w

@@ -11,9 +11,9 @@ use lib.ListN.{getD, length, take, set, replicate}
 use lib.Seq.{paste, take-at}
 use borrow.Author.Tests.{eq-eqb}
 use Rattle.meaning.specs.Order.{Vector}
-use Rattle.meaning.specs.Table.{Table, totalBound}
+use Rattle.meaning.specs.Table.{Table, totalBound, greatestSize, mostObjects}
 use Rattle.words_layout.specs.Words.{wordLimit, complement, ofComplement}
-use Rattle.words_layout.specs.Layout.{Laid, tableOf, wordsOf, rewritten, withClock, withLast, withTotals, totalWords, totalOfWords, sizeIn}
+use Rattle.words_layout.specs.Layout.{Laid, tableOf, wordsOf, rewritten, withClock, withLast, withTotals, totalWords, totalOfWords, sizeIn, clockAt, totalsAt}
 use Rattle.words_layout.proofs.Reading.{InRange, table-read, total-read}
 use Rattle.words_layout.proofs.Changing.{laid-again, put-clock, put-last, put-total}
 use Rattle.table_rules_clock.specs.ClockTests.{lastKept, totalKept}
@@ -31,9 +31,9 @@ use Rattle.form_load.specs.Loading.{loadedBy, nextAfter, takenAs, waits}
 use Rattle.law_round_trip.proofs.Setting.{pasted}
 use Rattle.law_round_trip.proofs.Under.{Fresh, under, size-is, own-is, kinds-are, clock-is, room, taken-by, took-as}
 
-pub front-of : (v : List ℕ) (n : ℕ) → length v ≡ n → take n (shapes.padded 16 v) ≡ v
+pub front-of : (v : List ℕ) (n : ℕ) → length v ≡ n → take n (shapes.padded greatestSize v) ≡ v
 unfolding shapes.padded
-front-of v n e = take-at v (replicate (16 - length v) 0) n e
+front-of v n e = take-at v (replicate (greatestSize - length v) 0) n e
 
 -- the words of a total that 64 bits hold say it
 total-back : (z : ℤ) → InRange z → totalOfWords (totalWords z) ≡ z
@@ -62,24 +62,24 @@ module _ (t : Table) (F : Fresh t) (rest : List ℕ) (p : ℕ) (line : List ℕ)
   no-rows = eq-eqb (length (t .rows)) 0 none
 
   -- `50`
-  pub clock-step : nextAfter size (t .header .own) (t .header .kinds) p ≡ next.Clock → (v : Vector) → length v ≡ size → clockRead size (bytesOf line) ≡ record { ok = true; vector = shapes.padded 16 v } → loadedBy line (under p t rest) ≡ (loaded.Taken, under (suc p) (withClock t v) rest)
+  pub clock-step : nextAfter size (t .header .own) (t .header .kinds) p ≡ next.Clock → (v : Vector) → length v ≡ size → clockRead size (bytesOf line) ≡ record { ok = true; vector = shapes.padded greatestSize v } → loadedBy line (under p t rest) ≡ (loaded.Taken, under (suc p) (withClock t v) rest)
   unfolding takenAs clockTaken waits
   clock-step c v long e =
       let words = under p t rest in
-      let put : paste plain 103 v (length v) ≡ rewritten plain (withClock t v) = pasted plain v 103 (sizeIn plain) (long ∙ sym size-plain) ∙ put-clock plain L v ∙ ap (λ (u : Table). rewritten plain (withClock u v)) back in
+      let put : paste plain clockAt v (length v) ≡ rewritten plain (withClock t v) = pasted plain v clockAt (sizeIn plain) (long ∙ sym size-plain) ∙ put-clock plain L v ∙ ap (λ (u : Table). rewritten plain (withClock u v)) back in
       taken-by t F rest p line next.Clock c no-rows
-      ∙ ap (λ (n : ℕ). pick (clockRead n (bytesOf line) .ok) (took words 103 (take n (clockRead n (bytesOf line) .vector))) (spoilt words)) (size-is t F rest p)
-      ∙ ap (λ (f : Clock). pick (f .ok) (took words 103 (take size (f .vector))) (spoilt words)) e
-      ∙ ap (took words 103) (front-of v size long)
-      ∙ took-as t F rest p 103 v (withClock t v) (omega arith) (omega (arith, room t F rest p)) put
+      ∙ ap (λ (n : ℕ). pick (clockRead n (bytesOf line) .ok) (took words clockAt (take n (clockRead n (bytesOf line) .vector))) (spoilt words)) (size-is t F rest p)
+      ∙ ap (λ (f : Clock). pick (f .ok) (took words clockAt (take size (f .vector))) (spoilt words)) e
+      ∙ ap (took words clockAt) (front-of v size long)
+      ∙ took-as t F rest p clockAt v (withClock t v) (omega arith) (omega (arith, room t F rest p)) put
 
   -- `51`
-  pub last-step : (k : ℕ) → k < size → nextAfter size (t .header .own) (t .header .kinds) p ≡ next.Last (record { 0 = k }) → (v : Vector) → length v ≡ size → lastKept (t .header .own) (t .clock) k v ≡ true → lastRead size (bytesOf line) ≡ record { ok = true; station = k; vector = shapes.padded 16 v } → loadedBy line (under p t rest) ≡ (loaded.Taken, under (suc p) (withLast t (set (t .last) k v)) rest)
+  pub last-step : (k : ℕ) → k < size → nextAfter size (t .header .own) (t .header .kinds) p ≡ next.Last (record { 0 = k }) → (v : Vector) → length v ≡ size → lastKept (t .header .own) (t .clock) k v ≡ true → lastRead size (bytesOf line) ≡ record { ok = true; station = k; vector = shapes.padded greatestSize v } → loadedBy line (under p t rest) ≡ (loaded.Taken, under (suc p) (withLast t (set (t .last) k v)) rest)
   unfolding takenAs lastTaken waits wordsOf
   last-step k b c v long kept e =
       let words = under p t rest in
-      let at = 103 + size + k * size in
-      let put : paste plain at v (length v) ≡ rewritten plain (withLast t (set (t .last) k v)) = rw (sym size-plain) (pasted plain v (103 + sizeIn plain + k * sizeIn plain) (sizeIn plain) (long ∙ sym size-plain) ∙ put-last plain L k v (rw size-plain b) ∙ ap (λ (u : Table). rewritten plain (withLast u (set (u .last) k v))) back) in
+      let at = clockAt + size + k * size in
+      let put : paste plain at v (length v) ≡ rewritten plain (withLast t (set (t .last) k v)) = rw (sym size-plain) (pasted plain v (clockAt + sizeIn plain + k * sizeIn plain) (sizeIn plain) (long ∙ sym size-plain) ∙ put-last plain L k v (rw size-plain b) ∙ ap (λ (u : Table). rewritten plain (withLast u (set (u .last) k v))) back) in
       let within : at ≤ length plain = omega (arith, room t F rest p, mul-le-mul-right size b) in
       taken-by t F rest p line (next.Last (record { 0 = k })) c no-rows
       ∙ rw (size-is t F rest p, own-is t F rest p, clock-is t F rest p)
@@ -91,8 +91,8 @@ module _ (t : Table) (F : Fresh t) (rest : List ℕ) (p : ℕ) (line : List ℕ)
   unfolding takenAs totalTaken waits wordsOf
   total-step o b c z range kept e =
       let words = under p t rest in
-      let at = 39 + o * 2 in
-      let few : length (t .header .kinds) ≤ 32 = F .well .fit .few-kinds in
+      let at = totalsAt + o * 2 in
+      let few : length (t .header .kinds) ≤ mostObjects = F .well .fit .few-kinds in
       let put : paste plain at (totalWords z) 2 ≡ rewritten plain (withTotals t (set (t .totals) o z)) = pasted plain (totalWords z) at 2 refl ∙ put-total plain L o z b ∙ ap (λ (u : Table). rewritten plain (withTotals u (set (u .totals) o z))) back in
       let same : totalOfWords (totalWords z) ≡ z = total-back z range in
       taken-by t F rest p line (next.Total o) c no-rows

@@ -16,7 +16,7 @@ use Rattle.meaning.specs.Rows.{Row}
 use Rattle.meaning.specs.Table.{Table, totalBound}
 use Rattle.meaning.specs.Calls.{withRows}
 use Rattle.meaning.proofs.Tests.{cases, and-left, and-right}
-use Rattle.words_layout.specs.Words.{complement, ofComplement}
+use Rattle.words_layout.specs.Words.{complement, ofComplement, wordLimit}
 use Rattle.words_layout.specs.Layout.{wordsOf, withClock, withLast, withTotals, totalOfWords}
 use Rattle.words_layout.proofs.Pieces.{Each}
 use Rattle.words_layout.proofs.RowWords.{Shaped, high-of, low-of}
@@ -147,8 +147,8 @@ said-range n h = cases (ltb n 9223372036854775808)
     (λ e. rw e (ltb-true n 9223372036854775808 e))
     (λ e. rw e (omega (arith, ltb-false n 9223372036854775808 e)))
 
-said-complement : (high low : ℕ) → high < 4294967296 → low < 4294967296 → complement (totalOfWords (high ∷ low ∷ [])) ≡ high * 4294967296 + low
-said-complement high low h l = code-read (high * 4294967296 + low) (omega arith)
+said-complement : (high low : ℕ) → high < wordLimit → low < wordLimit → complement (totalOfWords (high ∷ low ∷ [])) ≡ high * wordLimit + low
+said-complement high low h l = code-read (high * wordLimit + low) (omega arith)
 
 module _ (t : Table) (F : Fresh t) (rest : List ℕ) (p : ℕ) (line : List ℕ) (none : length (t .rows) ≡ 0) where
   abbrev size : ℕ
@@ -207,12 +207,12 @@ module _ (t : Table) (F : Fresh t) (rest : List ℕ) (p : ℕ) (line : List ℕ)
   total-back o b c =
       let f = totalRead bytes in
       let z = totalOfWords (f .high ∷ f .low ∷ []) in
-      let high : f .high < 4294967296 = high-small bytes (heard-bytes line) in
-      let low : f .low < 4294967296 = low-small bytes (heard-bytes line) in
-      let code : complement z ≡ f .high * 4294967296 + f .low = said-complement (f .high) (f .low) high low in
-      let high-is : complement z / 4294967296 ≡ f .high = rw code (high-of (f .high) (f .low) low) in
-      let low-is : complement z % 4294967296 ≡ f .low = rw code (low-of (f .high) (f .low) low) in
-      let range : InRange z = said-range (f .high * 4294967296 + f .low) (omega arith) in
+      let high : f .high < wordLimit = high-small bytes (heard-bytes line) in
+      let low : f .low < wordLimit = low-small bytes (heard-bytes line) in
+      let code : complement z ≡ f .high * wordLimit + f .low = said-complement (f .high) (f .low) high low in
+      let high-is : complement z / wordLimit ≡ f .high = rw code (high-of (f .high) (f .low) low) in
+      let low-is : complement z % wordLimit ≡ f .low = rw code (low-of (f .high) (f .low) low) in
+      let range : InRange z = said-range (f .high * wordLimit + f .low) (omega arith) in
       let kept = totalKept (totalBound (t .clock)) (getD (t .header .kinds) o 0) z in
       cases (f .ok && (eqb (f .object) o && kept))
       (λ yes. let ok : f .ok ≡ true = and-left (f .ok) (eqb (f .object) o && kept) yes in

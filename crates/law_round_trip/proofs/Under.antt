@@ -9,10 +9,10 @@ use lib.ListN.{getD, length, take, drop, set, length-set}
 use lib.Seq.{paste, drop-set-lt, drop-at}
 use borrow.Author.Tests.{le-leb, lt-ltb}
 use Rattle.meaning.specs.Tests.{between, every}
-use Rattle.meaning.specs.Table.{Table, inRange, headerRules}
+use Rattle.meaning.specs.Table.{Table, inRange, headerRules, greatestSize, greatestCapacity, mostObjects}
 use Rattle.meaning.proofs.Tests.{and-left, and-right, between-in}
 use Rattle.meaning.proofs.TableFacts.{HeaderFacts, header-facts}
-use Rattle.words_layout.specs.Layout.{Laid, tableMark, tableOf, wordsOf, rewritten, beyond, spaceFor, sizeIn, ownIn, capacityIn, objectsIn, countIn}
+use Rattle.words_layout.specs.Layout.{Laid, tableMark, tableOf, wordsOf, rewritten, beyond, spaceFor, sizeIn, ownIn, capacityIn, objectsIn, countIn, clockAt}
 use Rattle.words_layout.proofs.Reading.{Well, table-read}
 use Rattle.words_layout.proofs.Changing.{Sized, laid-again, words-long}
 use Rattle.table_rules.specs.TableTests.{clockIn, kindsIn, sizesKept}
@@ -84,7 +84,7 @@ module _ (t : Table) (F : Fresh t) (rest : List ℕ) (p : ℕ) where
 
   pub clock-is : clockIn words ≡ t .clock
   unfolding tableOf wordsOf
-  clock-is = ap (λ (l : List ℕ). take (t .header .size) l) (behind 103 (omega arith)) ∙ ap (λ (u : Table). u .clock) (table-read t (F .well) rest)
+  clock-is = ap (λ (l : List ℕ). take (t .header .size) l) (behind clockAt (omega arith)) ∙ ap (λ (u : Table). u .clock) (table-read t (F .well) rest)
 
   pub room : spaceFor (t .header .size) (t .header .capacity) ≤ length plain
   unfolding wordsOf
@@ -93,16 +93,16 @@ module _ (t : Table) (F : Fresh t) (rest : List ℕ) (p : ℕ) where
   sizes : sizesKept (t .header .size) (t .header .own) (t .header .capacity) (length (t .header .kinds)) (length (t .rows)) ≡ true
   unfolding sizesKept
   sizes =
-      rw (between-in 1 16 (t .header .size) (H .size-range .0) (H .size-range .1), lt-ltb (t .header .own) (t .header .size) (H .own-in), between-in 1 512 (t .header .capacity) (H .capacity-range .0) (H .capacity-range .1), between-in 1 32 (length (t .header .kinds)) (H .objects-range .0) (H .objects-range .1), le-leb (length (t .rows)) (t .header .capacity) (F .sized .within)) refl
+      rw (between-in 1 greatestSize (t .header .size) (H .size-range .0) (H .size-range .1), lt-ltb (t .header .own) (t .header .size) (H .own-in), between-in 1 (greatestCapacity (t .header .size)) (t .header .capacity) (H .capacity-range .0) (H .capacity-range .1), between-in 1 mostObjects (length (t .header .kinds)) (H .objects-range .0) (H .objects-range .1), le-leb (length (t .rows)) (t .header .capacity) (F .sized .within)) refl
 
   known-kinds : every (between 1 9) (t .header .kinds) ≡ true
   unfolding inRange headerRules
   known-kinds =
-      let a = between 1 16 (t .header .size) in
+      let a = between 1 greatestSize (t .header .size) in
       let b = ltb (t .header .own) (t .header .size) in
-      let c = between 1 32 (length (t .header .kinds)) in
+      let c = between 1 mostObjects (length (t .header .kinds)) in
       let d = every (between 1 9) (t .header .kinds) in
-      let e = between 1 512 (t .header .capacity) in
+      let e = between 1 (greatestCapacity (t .header .size)) (t .header .capacity) in
       and-left d (e && true) (and-right c (d && (e && true)) (and-right b (c && (d && (e && true))) (and-right a (b && (c && (d && (e && true)))) (F .ranged))))
 
   abbrev coming : Next

@@ -1,5 +1,5 @@
 -- Lines fed in pieces: what is kept of a line when its LF comes gets what the whole line gets, if a line's bytes and type decide what it gets.
-use Prim.Native.Nat.{ℕ, suc, _+_, _-_, _*_, _≤_, _<_}
+use Prim.Native.Nat.{ℕ, suc, _+_, _-_, _≤_, _<_}
 use mathlib.Core.Path.{_≡_, refl, sym, ap, subst, _∙_}
 use mathlib.Core.Bool.{Bool, true, false}
 use mathlib.Core.List.{List, [], _∷_, _++_}
@@ -16,6 +16,7 @@ use Rattle.line_decode.specs.Decoding.{bytesOf, typeOf}
 use Rattle.line_decode.specs.Feeding.{afterLines, atEnd, fed, Going, heldFed, heldOn, heldTaken, Keeps, LastPiece, lineOn, NoLf, restOf, taken, WholeLines}
 use Rattle.line_decode.proofs.Keeping.{kept-all-within, kept-append, kept-within, length-kept-all, no-lf-on, nowhere, only-last, some-kept}
 use Rattle.line_decode.proofs.Said.{kept-bytes, kept-type}
+use Rattle.line_read.specs.Types.{lineRoom}
 
 -- the ways of a character
 module _ (space : List ℕ) (have b n : ℕ) (s : List ℕ) (e : (n, s) ≡ kept space have b) where
@@ -87,7 +88,7 @@ held-append answer space have held [] b = refl
 held-append answer space have held (x ∷ a) b = held-append answer (taken space have x .1) (taken space have x .0) (heldTaken answer space have held x) a b
 
 -- of no characters none are kept
-pub keeps-none : (space : List ℕ) → length space ≡ 2 * 261 + 1 → Keeps [] space 0
+pub keeps-none : (space : List ℕ) → length space ≡ lineRoom → Keeps [] space 0
 unfolding keptAll NoLf
 keeps-none space long = record { empty = space; long = long; open-ended = tt; same = refl }
 
@@ -97,7 +98,7 @@ module _ (line space : List ℕ) (have : ℕ) (K : Keeps line space have) where
   unfolding keptAll
   kept-on b = ap (λ (q : ℕ × List ℕ). kept (q .1) (q .0) b) (K .same) ∙ sym (kept-append (K .empty) 0 line (b ∷ []))
 
-  long-on : (b : ℕ) → length (kept space have b .1) ≡ 2 * 261 + 1
+  long-on : (b : ℕ) → length (kept space have b .1) ≡ lineRoom
   long-on b = ap (λ (q : ℕ × List ℕ). length (q .1)) (kept-on b) ∙ length-kept-all (K .empty) 0 (line ++ (b ∷ [])) ∙ K .long
 
   keeps-on : (b : ℕ) → Keeps (lineOn line b) (taken space have b .1) (taken space have b .0)

@@ -29,6 +29,7 @@ use Rattle.line_put.specs.declared.Written.the-variants.{Characters}
 use Rattle.line_print.specs.Printed.{printed}
 use Rattle.line_print.proofs.Spelling.{printed-line, printed-reads-back}
 use Rattle.line_print.proofs.Joined.{taken}
+use Rattle.meaning.specs.Table.{greatestSize}
 
 -- characters that decode, and whose bytes a reader takes for a value
 pub record ReadAs (A : Type 0) (reader : List ℕ → A) (value : A) (characters buffer : List ℕ) : Type 0 where
@@ -88,21 +89,21 @@ module _ (characters buffer : List ℕ) (count : ℕ) (told : decoded characters
       → OnlySpelling operation (operationRead bytes .stations ∷ operationRead bytes .sender ∷ operationRead bytes .object ∷ operationRead bytes .code ∷ operationRead bytes .value ∷ []) (take (operationRead bytes .stations) (operationRead bytes .vector)) characters
   operation-characters-only-spelling e = read-written operation _ _ (operation-only-spelling bytes are-bytes e)
 
-module _ (vector : List ℕ) (few : length vector ≤ 16) where
-  pub clock-characters-read-back : Fitting (shapeOf clock (length vector)) (clock .typeByte ∷ vector) → ReadsBack Clock (clockRead (length vector)) (record { ok = true; vector = padded 16 vector }) clock [] vector
+module _ (vector : List ℕ) (few : length vector ≤ greatestSize) where
+  pub clock-characters-read-back : Fitting (shapeOf clock (length vector)) (clock .typeByte ∷ vector) → ReadsBack Clock (clockRead (length vector)) (record { ok = true; vector = padded greatestSize vector }) clock [] vector
   clock-characters-read-back fit = written-reads Clock (clockRead (length vector)) _ clock [] vector (saved.clock-reads-back vector few fit)
 
   pub last-characters-read-back : (station : ℕ) → Fitting (shapeOf lastVector (length vector)) (lastVector .typeByte ∷ station ∷ vector)
-      → ReadsBack LastVector (lastRead (length vector)) (record { ok = true; station = station; vector = padded 16 vector }) lastVector (station ∷ []) vector
+      → ReadsBack LastVector (lastRead (length vector)) (record { ok = true; station = station; vector = padded greatestSize vector }) lastVector (station ∷ []) vector
   last-characters-read-back station fit = written-reads LastVector (lastRead (length vector)) _ lastVector (station ∷ []) vector (saved.last-reads-back vector few station fit)
 
   pub row-characters-read-back : (object code settled sender value : ℕ) → Fitting (shapeOf row (length vector)) (row .typeByte ∷ object ∷ code ∷ settled ∷ sender ∷ value ∷ vector)
-      → ReadsBack Row (rowRead (length vector)) (record { ok = true; object = object; code = code; settled = settled; sender = sender; value = value; vector = padded 16 vector }) row (object ∷ code ∷ settled ∷ sender ∷ value ∷ []) vector
+      → ReadsBack Row (rowRead (length vector)) (record { ok = true; object = object; code = code; settled = settled; sender = sender; value = value; vector = padded greatestSize vector }) row (object ∷ code ∷ settled ∷ sender ∷ value ∷ []) vector
   row-characters-read-back object code settled sender value fit =
       written-reads Row (rowRead (length vector)) _ row (object ∷ code ∷ settled ∷ sender ∷ value ∷ []) vector (saved.row-reads-back vector few object code settled sender value fit)
 
   pub operation-characters-read-back : (sender object code value : ℕ) → Fitting (shapeOf operation (length vector)) (operation .typeByte ∷ length vector ∷ sender ∷ object ∷ code ∷ value ∷ vector)
-      → ReadsBack Operation operationRead (record { ok = true; stations = length vector; sender = sender; object = object; code = code; value = value; vector = padded 16 vector }) operation (length vector ∷ sender ∷ object ∷ code ∷ value ∷ []) vector
+      → ReadsBack Operation operationRead (record { ok = true; stations = length vector; sender = sender; object = object; code = code; value = value; vector = padded greatestSize vector }) operation (length vector ∷ sender ∷ object ∷ code ∷ value ∷ []) vector
   operation-characters-read-back sender object code value fit =
       written-reads Operation operationRead _ operation (length vector ∷ sender ∷ object ∷ code ∷ value ∷ []) vector (operation-reads-back sender object code value vector few fit)
 

@@ -11,7 +11,7 @@ use Rattle.line_hex.specs.Choice.{pick}
 use Rattle.line_hex.specs.Numbers.{AllBytes}
 use Rattle.line_hex.proofs.Bytes.{all-bytes-at}
 use Rattle.line_hex.proofs.Digits.{and-left, and-right}
-use Rattle.line_shape.specs.Reading.{entries, fieldsRead, hasShape, mostStations, padded, sizeOf, startsWith, unread}
+use Rattle.line_shape.specs.Reading.{entries, fieldsRead, hasShape, padded, sizeOf, startsWith, unread}
 use Rattle.line_shape.specs.Shapes.{lengthOf, read}
 use Rattle.line_shape.specs.declared.Fields.{Fields}
 use Rattle.line_shape.proofs.Taking.{head-small}
@@ -20,6 +20,7 @@ use Rattle.line_read.specs.Named.{issueRead, openingOf, openingRead, ope
 use Rattle.line_read.specs.declared.Opening.{Opening}
 use Rattle.line_read.proofs.Known.{Known, known}
 use Rattle.line_read.proofs.Taken.{count-field}
+use Rattle.meaning.specs.Table.{greatestSize}
 
 has-size : (kind size : ℕ) (bytes : List ℕ) → hasShape kind size bytes ≡ true → length bytes ≡ size
 unfolding hasShape
@@ -28,15 +29,15 @@ has-size kind size bytes e = eqb-true (length bytes) size (and-left (eqb (length
 -- every line with a vector, also those of a saved form
 pub line-at-most-longest : (line : Line) → Known line → (stations : ℕ) (bytes : List ℕ) → lineRead line stations bytes .ok ≡ true → length bytes ≤ longest
 unfolding lineRead fieldsRead
-line-at-most-longest line K stations bytes = go (leb stations mostStations && hasShape (line .typeByte) (sizeOf (headOf line) stations) bytes) refl
+line-at-most-longest line K stations bytes = go (leb stations greatestSize && hasShape (line .typeByte) (sizeOf (headOf line) stations) bytes) refl
   where
     whole : Fields
-    whole = record { ok = true; head = padded 6 (read (headOf line) bytes); vector = padded 16 (entries stations (drop (lengthOf (headOf line)) bytes)) }
+    whole = record { ok = true; head = padded 6 (read (headOf line) bytes); vector = padded greatestSize (entries stations (drop (lengthOf (headOf line)) bytes)) }
 
-    go : (t : Bool) → leb stations mostStations && hasShape (line .typeByte) (sizeOf (headOf line) stations) bytes ≡ t → pick t whole unread .ok ≡ true → length bytes ≤ longest
+    go : (t : Bool) → leb stations greatestSize && hasShape (line .typeByte) (sizeOf (headOf line) stations) bytes ≡ t → pick t whole unread .ok ≡ true → length bytes ≤ longest
     go true e k =
-        let few : stations ≤ mostStations = leb-true stations mostStations (and-left (leb stations mostStations) (hasShape (line .typeByte) (sizeOf (headOf line) stations) bytes) e) in
-        let size : length bytes ≡ lengthOf (headOf line) + 4 * stations = has-size (line .typeByte) (sizeOf (headOf line) stations) bytes (and-right (leb stations mostStations) (hasShape (line .typeByte) (sizeOf (headOf line) stations) bytes) e) in
+        let few : stations ≤ greatestSize = leb-true stations greatestSize (and-left (leb stations greatestSize) (hasShape (line .typeByte) (sizeOf (headOf line) stations) bytes) e) in
+        let size : length bytes ≡ lengthOf (headOf line) + 4 * stations = has-size (line .typeByte) (sizeOf (headOf line) stations) bytes (and-right (leb stations greatestSize) (hasShape (line .typeByte) (sizeOf (headOf line) stations) bytes) e) in
         omega (arith, head-small (headOf line) (K .head))
     go false e k = absurd (let z : _≡_ {A = ℕ} 0 1 = cc in omega arith)
 

@@ -11,7 +11,7 @@ use lib.Seq.{length-take-le}
 use Rattle.line_hex.specs.Choice.{pick}
 use Rattle.line_hex.specs.Numbers.{AllBytes}
 use Rattle.line_hex.proofs.Digits.{and-left}
-use Rattle.line_shape.specs.Reading.{entries, fieldsRead, hasShape, mostStations, padded, sizeOf, unread}
+use Rattle.line_shape.specs.Reading.{entries, fieldsRead, hasShape, padded, sizeOf, unread}
 use Rattle.line_shape.specs.Shapes.{Fitting, lengthOf, read}
 use Rattle.line_shape.specs.declared.Fields.{Fields}
 use Rattle.line_read.specs.Types.{headOf, lineOf, lineRead, shapeOf, operation, issue, settling, question, printing}
@@ -20,6 +20,7 @@ use Rattle.line_read.proofs.Spelling.{line-of-spelt, only-spelling}
 use Rattle.line_read.proofs.Known.{known}
 use Rattle.line_read.proofs.Readers.{operation-vector}
 use Rattle.line_read.proofs.Taken.{head-reads-back, line-only-spelling-named, line-reads-back, second-field, written-is-of}
+use Rattle.meaning.specs.Table.{greatestSize}
 
 pub issue-reads-back : (object code value : ℕ) → Fitting (shapeOf issue 0) (issue .typeByte ∷ object ∷ code ∷ value ∷ [])
     → issueRead (lineOf issue (object ∷ code ∷ value ∷ []) []) ≡ record { ok = true; object = object; code = code; value = value }
@@ -62,8 +63,8 @@ module _ (sender object code value : ℕ) (vector : List ℕ) where
   abbrev operationFields : List ℕ
   operationFields = length vector ∷ sender ∷ object ∷ code ∷ value ∷ []
 
-  pub operation-reads-back : length vector ≤ 16 → Fitting (shapeOf operation (length vector)) (operation .typeByte ∷ (operationFields ++ vector))
-      → operationRead (lineOf operation operationFields vector) ≡ record { ok = true; stations = length vector; sender = sender; object = object; code = code; value = value; vector = padded 16 vector }
+  pub operation-reads-back : length vector ≤ greatestSize → Fitting (shapeOf operation (length vector)) (operation .typeByte ∷ (operationFields ++ vector))
+      → operationRead (lineOf operation operationFields vector) ≡ record { ok = true; stations = length vector; sender = sender; object = object; code = code; value = value; vector = padded greatestSize vector }
   unfolding operationRead padded
   operation-reads-back few fit =
       let many : getD (lineOf operation operationFields vector) 1 0 ≡ length vector = sym (second-field _ (lineOf operation operationFields vector)) ∙ ap (λ (l : List ℕ). getD l 1 0) (head-reads-back operation operationFields vector refl fit) in
@@ -72,25 +73,25 @@ module _ (sender object code value : ℕ) (vector : List ℕ) where
 -- the N of an operation that reads is its second byte, and no more than a vector's entries
 module _ (bytes : List ℕ) where
   abbrev whole : Fields
-  whole = record { ok = true; head = padded 6 (read (headOf operation) bytes); vector = padded 16 (entries (getD bytes 1 0) (drop (lengthOf (headOf operation)) bytes)) }
+  whole = record { ok = true; head = padded 6 (read (headOf operation) bytes); vector = padded greatestSize (entries (getD bytes 1 0) (drop (lengthOf (headOf operation)) bytes)) }
 
   abbrev shaped : Bool
-  shaped = leb (getD bytes 1 0) mostStations && hasShape (operation .typeByte) (sizeOf (headOf operation) (getD bytes 1 0)) bytes
+  shaped = leb (getD bytes 1 0) greatestSize && hasShape (operation .typeByte) (sizeOf (headOf operation) (getD bytes 1 0)) bytes
 
   named-at : (t : Bool) → pick t whole unread .ok ≡ true → getD (pick t whole unread .head) 1 0 ≡ getD bytes 1 0
   unfolding padded read
   named-at true e = second-field (1 ∷ 1 ∷ 1 ∷ 4 ∷ []) bytes
   named-at false e = absurd (let z : _≡_ {A = ℕ} 0 1 = cc in omega arith)
 
-  few-at : (t : Bool) → shaped ≡ t → pick t whole unread .ok ≡ true → getD bytes 1 0 ≤ 16
-  few-at true f e = leb-true (getD bytes 1 0) mostStations (and-left (leb (getD bytes 1 0) mostStations) (hasShape (operation .typeByte) (sizeOf (headOf operation) (getD bytes 1 0)) bytes) f)
+  few-at : (t : Bool) → shaped ≡ t → pick t whole unread .ok ≡ true → getD bytes 1 0 ≤ greatestSize
+  few-at true f e = leb-true (getD bytes 1 0) greatestSize (and-left (leb (getD bytes 1 0) greatestSize) (hasShape (operation .typeByte) (sizeOf (headOf operation) (getD bytes 1 0)) bytes) f)
   few-at false f e = absurd (let z : _≡_ {A = ℕ} 0 1 = cc in omega arith)
 
   pub operation-stations : operationRead bytes .ok ≡ true → operationRead bytes .stations ≡ getD bytes 1 0
   unfolding operationRead lineRead fieldsRead
   operation-stations = named-at shaped
 
-  pub operation-stations-few : operationRead bytes .ok ≡ true → operationRead bytes .stations ≤ 16
+  pub operation-stations-few : operationRead bytes .ok ≡ true → operationRead bytes .stations ≤ greatestSize
   unfolding operationRead lineRead fieldsRead
   operation-stations-few e = rw (operation-stations e) (few-at shaped refl e)
 

@@ -16,6 +16,7 @@ use Rattle.line_read.specs.Types.{headOf, isOf, lineRead, opening, opera
 use Rattle.line_read.specs.Named.{openingOf, openingRead, operationRead}
 use Rattle.line_read.specs.declared.Opening.{Opening}
 use Rattle.line_read.specs.declared.Operation.{Operation}
+use Rattle.meaning.specs.Table.{greatestSize}
 
 module _ (s : List ℕ) (at : ℕ) (p : NextByte) (e : p ≡ byteAt s at) where
   pub count-there : (b next : ℕ) → p ≡ Byte b next → b ≡ getD s at 0
@@ -38,6 +39,6 @@ module _ (s : List ℕ) (count : ℕ) (ok : Bool) (e : count ≡ getD s 5 0) (f 
   opening-other g = rw (opening-ok, g) refl
 
 -- the vector of an operation that was read has the length of its array
-pub operation-vector : (s : List ℕ) (r : Operation) → r ≡ operationRead s → length (r .vector) ≡ 16
+pub operation-vector : (s : List ℕ) (r : Operation) → r ≡ operationRead s → length (r .vector) ≡ greatestSize
 unfolding operationRead lineRead
 operation-vector s r e = ap (λ (o : Operation). length (o .vector)) e ∙ length-vector s (headOf operation) (operation .typeByte) (getD s 1 0)

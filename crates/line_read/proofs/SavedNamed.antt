@@ -12,19 +12,20 @@ use Rattle.line_read.specs.Types.{lineOf, shapeOf, clock, lastVector, to
 use Rattle.line_read.proofs.Known.{known}
 use Rattle.line_read.proofs.Taken.{line-only-spelling-named, line-reads-back}
 use Rattle.line_read.specs.SavedNamed.{clockOf, clockRead, closingOf, closingRead, lastOf, lastRead, rowOf, rowRead, totalOf, totalRead}
+use Rattle.meaning.specs.Table.{greatestSize}
 
-module _ (vector : List ℕ) (few : length vector ≤ 16) where
-  pub clock-reads-back : Fitting (shapeOf clock (length vector)) (clock .typeByte ∷ vector) → clockRead (length vector) (lineOf clock [] vector) ≡ record { ok = true; vector = padded 16 vector }
+module _ (vector : List ℕ) (few : length vector ≤ greatestSize) where
+  pub clock-reads-back : Fitting (shapeOf clock (length vector)) (clock .typeByte ∷ vector) → clockRead (length vector) (lineOf clock [] vector) ≡ record { ok = true; vector = padded greatestSize vector }
   unfolding clockRead padded
   clock-reads-back fit = ap clockOf (line-reads-back clock [] vector refl fit (known clock refl) refl few)
 
   pub last-reads-back : (station : ℕ) → Fitting (shapeOf lastVector (length vector)) (lastVector .typeByte ∷ station ∷ vector)
-      → lastRead (length vector) (lineOf lastVector (station ∷ []) vector) ≡ record { ok = true; station = station; vector = padded 16 vector }
+      → lastRead (length vector) (lineOf lastVector (station ∷ []) vector) ≡ record { ok = true; station = station; vector = padded greatestSize vector }
   unfolding lastRead padded
   last-reads-back station fit = ap lastOf (line-reads-back lastVector (station ∷ []) vector refl fit (known lastVector refl) refl few)
 
   pub row-reads-back : (object code settled sender value : ℕ) → Fitting (shapeOf row (length vector)) (row .typeByte ∷ object ∷ code ∷ settled ∷ sender ∷ value ∷ vector)
-      → rowRead (length vector) (lineOf row (object ∷ code ∷ settled ∷ sender ∷ value ∷ []) vector) ≡ record { ok = true; object = object; code = code; settled = settled; sender = sender; value = value; vector = padded 16 vector }
+      → rowRead (length vector) (lineOf row (object ∷ code ∷ settled ∷ sender ∷ value ∷ []) vector) ≡ record { ok = true; object = object; code = code; settled = settled; sender = sender; value = value; vector = padded greatestSize vector }
   unfolding rowRead padded
   row-reads-back object code settled sender value fit = ap rowOf (line-reads-back row (object ∷ code ∷ settled ∷ sender ∷ value ∷ []) vector refl fit (known row refl) refl few)
 

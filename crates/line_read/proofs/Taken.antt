@@ -11,7 +11,7 @@ use lib.Seq.{drop-at, drop-drop, getD-drop, take-at}
 use Rattle.line_hex.specs.Choice.{pick}
 use Rattle.line_hex.specs.Numbers.{AllBytes, numberFrom}
 use Rattle.line_hex.proofs.Digits.{and-left, and-right}
-use Rattle.line_shape.specs.Reading.{entries, fieldsRead, hasShape, mostStations, padded, sizeOf, startsWith, unread}
+use Rattle.line_shape.specs.Reading.{entries, fieldsRead, hasShape, padded, sizeOf, startsWith, unread}
 use Rattle.line_shape.specs.Shapes.{Fitting, lengthOf, read}
 use Rattle.line_shape.specs.declared.Fields.{Fields}
 use Rattle.line_shape.proofs.Spelling.{length-read, read-append}
@@ -21,6 +21,7 @@ use Rattle.line_read.specs.declared.Opening.{Opening}
 use Rattle.line_shape.proofs.Taking.{length-head}
 use Rattle.line_read.proofs.Known.{Known, known}
 use Rattle.line_read.proofs.Spelling.{line-of-spelt, only-spelling, reads-back, spelt-is-of}
+use Rattle.meaning.specs.Table.{greatestSize}
 
 -- the fields of a line that was written, and its further ones, read apart
 module _ (line : Line) (fields more : List ℕ) (many : length fields ≡ length (line .widths)) (fit : Fitting (shapeOf line (length more)) (line .typeByte ∷ (fields ++ more))) where
@@ -40,12 +41,12 @@ module _ (line : Line) (fields more : List ℕ) (many : length fields ≡ length
   written-is-of K = rw (line-of-spelt line fields more many) (spelt-is-of line (length more) K (fields ++ more) fit)
 
   -- what is written reads back: a line with a vector
-  pub line-reads-back : Known line → line .each ≡ 4 → length more ≤ mostStations → lineRead line (length more) (lineOf line fields more) ≡ record { ok = true; head = padded 6 (line .typeByte ∷ fields); vector = padded 16 more }
+  pub line-reads-back : Known line → line .each ≡ 4 → length more ≤ greatestSize → lineRead line (length more) (lineOf line fields more) ≡ record { ok = true; head = padded 6 (line .typeByte ∷ fields); vector = padded greatestSize more }
   unfolding lineRead fieldsRead entries isOf
   line-reads-back K four few =
       let shape : hasShape (line .typeByte) (lengthOf (headOf line) + 4 * length more) (lineOf line fields more) ≡ true = ap (λ (w : ℕ). hasShape (line .typeByte) (lengthOf (headOf line) + w * length more) (lineOf line fields more)) (sym four) ∙ written-is-of K in
       let tail : read (replicate (length more) 4) (drop (lengthOf (headOf line)) (lineOf line fields more)) ≡ more = ap (λ (w : ℕ). read (replicate (length more) w) (drop (lengthOf (headOf line)) (lineOf line fields more))) (sym four) ∙ more-reads-back in
-      rw (le-leb (length more) mostStations few, shape, head-reads-back, tail) refl
+      rw (le-leb (length more) greatestSize few, shape, head-reads-back, tail) refl
 
 take-padded : (m n : ℕ) (l : List ℕ) → length l ≡ n → take n (padded m l) ≡ l
 unfolding padded
@@ -73,15 +74,15 @@ module _ (line : Line) (stations : ℕ) (bytes : List ℕ) (four : line .each �
 
   pub line-only-spelling : lineRead line stations bytes .ok ≡ true → lineOf line (drop 1 (take (length (headOf line)) (lineRead line stations bytes .head))) (take stations (lineRead line stations bytes .vector)) ≡ bytes
   unfolding lineRead fieldsRead isOf
-  line-only-spelling = go (leb stations mostStations && hasShape (line .typeByte) (sizeOf (headOf line) stations) bytes) refl
+  line-only-spelling = go (leb stations greatestSize && hasShape (line .typeByte) (sizeOf (headOf line) stations) bytes) refl
     where
       whole : Fields
-      whole = record { ok = true; head = padded 6 (read (headOf line) bytes); vector = padded 16 (entries stations (drop (lengthOf (headOf line)) bytes)) }
+      whole = record { ok = true; head = padded 6 (read (headOf line) bytes); vector = padded greatestSize (entries stations (drop (lengthOf (headOf line)) bytes)) }
 
-      go : (t : Bool) → leb stations mostStations && hasShape (line .typeByte) (sizeOf (headOf line) stations) bytes ≡ t → pick t whole unread .ok ≡ true → lineOf line (drop 1 (take (length (headOf line)) (pick t whole unread .head))) (take stations (pick t whole unread .vector)) ≡ bytes
+      go : (t : Bool) → leb stations greatestSize && hasShape (line .typeByte) (sizeOf (headOf line) stations) bytes ≡ t → pick t whole unread .ok ≡ true → lineOf line (drop 1 (take (length (headOf line)) (pick t whole unread .head))) (take stations (pick t whole unread .vector)) ≡ bytes
       go true e k =
-          let shape : isOf line stations bytes ≡ true = ap (λ (w : ℕ). hasShape (line .typeByte) (lengthOf (headOf line) + w * stations) bytes) four ∙ and-right (leb stations mostStations) (hasShape (line .typeByte) (sizeOf (headOf line) stations) bytes) e in
-          rw (take-padded 6 (length (headOf line)) (read (headOf line) bytes) (length-read (headOf line) bytes), take-padded 16 stations (entries stations (drop (lengthOf (headOf line)) bytes)) length-entries) (apart shape)
+          let shape : isOf line stations bytes ≡ true = ap (λ (w : ℕ). hasShape (line .typeByte) (lengthOf (headOf line) + w * stations) bytes) four ∙ and-right (leb stations greatestSize) (hasShape (line .typeByte) (sizeOf (headOf line) stations) bytes) e in
+          rw (take-padded 6 (length (headOf line)) (read (headOf line) bytes) (length-read (headOf line) bytes), take-padded greatestSize stations (entries stations (drop (lengthOf (headOf line)) bytes)) length-entries) (apart shape)
       go false e k = absurd (let z : _≡_ {A = ℕ} 0 1 = cc in omega arith)
 
 -- an opening: its kinds are the bytes behind its count

@@ -7,6 +7,7 @@ use Rattle.line_shape.specs.Reading.{fieldsRead, hasShape}
 use Rattle.line_shape.specs.Shapes.{lengthOf, written}
 use Rattle.line_shape.specs.declared.Fields.{Fields}
 use Rattle.line_put.specs.Writing.{lineBytes}
+use Rattle.meaning.specs.Table.{greatestSize}
 
 -- a type of line: its first byte, the widths of the fields that each of its lines has behind that, and the width of each further one
 pub record Line : Type 0 where
@@ -102,6 +103,22 @@ lineRead line stations bytes = fieldsRead (line .typeByte) (headOf line) station
 abbrev pub lineOf : Line → List ℕ → List ℕ → List ℕ
 lineOf line fields more = lineBytes (headOf line) (line .typeByte ∷ fields) (line .each) more
 
--- the bytes of the longest line that reads: an opening with as many kinds as its count can say
+-- the bytes of the longest line that reads: an opening with as many kinds as its count, a byte, can say
 abbrev pub longest : ℕ
-longest = 261
+longest = 6 + 255
+
+-- the characters of so many bytes and LF
+abbrev pub charactersOf : ℕ → ℕ
+charactersOf bytes = 2 * bytes + 1
+
+-- the characters of the longest line that reads
+abbrev pub lineRoom : ℕ
+lineRoom = charactersOf longest
+
+-- the bytes of the longest line with a vector: an operation's or a row's, 9 bytes and an entry a station
+abbrev pub longestVectorLine : ℕ
+longestVectorLine = 9 + 4 * greatestSize
+
+-- the characters of the longest frame
+abbrev pub longestFrame : ℕ
+longestFrame = charactersOf longestVectorLine

@@ -7,8 +7,11 @@ ghost use Rattle.line_read.specs.Types.{longest};
 ghost use Rattle.line_read.specs.Named.{issueRead, openingRead, operationRead, printingRead, questionRead, settlingRead};
 ghost use Rattle.line_read.specs.SavedNamed.{clockRead, closingRead, lastRead, rowRead, totalRead};
 
-// The bytes of the longest line that can get anything but a refusal of its shape: an opening with 255 kinds.
-pub const LONGEST: usize = 261;
+// The bytes of the longest line that can get anything but a refusal of its shape: an opening with as many kinds as a byte can count.
+pub const LONGEST: usize = KINDS_PLACE + u8::MAX as usize;
+
+// The characters of that line, with its LF.
+pub const LINE_ROOM: usize = 2 * LONGEST + 1;
 
 // Ties the constant to the laws, which can't name it.
 pub fn longest_line() -> usize
@@ -43,6 +46,11 @@ pub const CLOSING: u8 = 0x5f;
 pub const REFUSED: u8 = 0xff;
 
 pub const DONE: u8 = 0x00;
+
+// The settled byte of a row's line.
+pub const SETTLED_BYTE: u32 = 1;
+
+pub const UNSETTLED_BYTE: u32 = 0;
 
 // The widths of the fields that every line of a type has, its type first.
 pub const OPENING_WIDTHS: [u8; 5] = [1, 1, 1, 2, 1];
@@ -99,7 +107,7 @@ pub struct Operation {
     pub object: u32,
     pub code: u32,
     pub value: u32,
-    pub vector: [u32; line_shape::MOST_STATIONS],
+    pub vector: [u32; meaning::MOST_STATIONS],
 }
 
 pub struct Issue {
@@ -218,14 +226,14 @@ pub fn read_printing(s: &[u8]) -> bool
 // D.
 pub struct Clock {
     pub ok: bool,
-    pub vector: [u32; line_shape::MOST_STATIONS],
+    pub vector: [u32; meaning::MOST_STATIONS],
 }
 
 // k and L[k].
 pub struct LastVector {
     pub ok: bool,
     pub station: u32,
-    pub vector: [u32; line_shape::MOST_STATIONS],
+    pub vector: [u32; meaning::MOST_STATIONS],
 }
 
 // The two words of a total in two's complement.
@@ -244,7 +252,7 @@ pub struct Row {
     pub settled: u32,
     pub sender: u32,
     pub value: u32,
-    pub vector: [u32; line_shape::MOST_STATIONS],
+    pub vector: [u32; meaning::MOST_STATIONS],
 }
 
 pub struct Closing {

@@ -14,6 +14,7 @@ use Rattle.line_shape.specs.declared.NextFour.{NextFour}
 use Rattle.line_shape.specs.declared.NextFour.the-variants.{Four, NoFour}
 use Rattle.line_shape.proofs.Places.{four-given, FourGiven, no-four-given}
 use Rattle.line_shape.proofs.Spelling.{narrow-at}
+use Rattle.meaning.specs.Table.{greatestSize}
 
 -- of `all`, `i` numbers stand in an array of m, and `left` are to come
 pub record Filling (m : ℕ) (all array left : List ℕ) (i : ℕ) : Type 0 where
@@ -67,13 +68,13 @@ module _ (s widths head : List ℕ) (at i : ℕ) (F : Heading s widths head at i
 
 -- entries_at
 pub record Gathering (s : List ℕ) (at stations : ℕ) (vector : List ℕ) (from i : ℕ) : Type 0 where
-  pub filled : Filling 16 (entries stations (drop at s)) vector (entries (stations - i) (drop from s)) i
+  pub filled : Filling greatestSize (entries stations (drop at s)) vector (entries (stations - i) (drop from s)) i
   pub within : i ≤ stations
-  pub few : stations ≤ 16
+  pub few : stations ≤ greatestSize
   pub place : from ≡ at + 4 * i
   pub enough : at + 4 * stations ≤ length s
 
-pub gathering-start : (s : List ℕ) (at stations : ℕ) → stations ≤ 16 → at + 4 * stations ≤ length s → Gathering s at stations (replicate 16 0) at 0
+pub gathering-start : (s : List ℕ) (at stations : ℕ) → stations ≤ greatestSize → at + 4 * stations ≤ length s → Gathering s at stations (replicate greatestSize 0) at 0
 gathering-start s at stations h k =
     let all : stations - 0 ≡ stations = omega arith in
     record { filled = record { same = rw all refl; rest = refl; long = refl }; within = omega arith; few = h; place = omega arith; enough = k }
@@ -86,7 +87,7 @@ module _ (s : List ℕ) (at stations : ℕ) (vector : List ℕ) (from i : ℕ) (
       let one : stations - i ≡ suc (stations - (i + 1)) = omega arith in
       let more : entries (stations - i) (drop from s) ≡ n ∷ entries (stations - (i + 1)) (drop next s) = rw (one, F .number, F .on, ← drop-drop 4 from s) refl in
       record {
-        filled = filling-turn 16 (entries stations (drop at s)) vector (entries (stations - i) (drop from s)) i n _ (G .filled) more (omega (arith, G .few));
+        filled = filling-turn greatestSize (entries stations (drop at s)) vector (entries (stations - i) (drop from s)) i n _ (G .filled) more (omega (arith, G .few));
         within = omega arith;
         few = G .few;
         place = omega (arith, G .place, F .on);
@@ -97,8 +98,8 @@ module _ (s : List ℕ) (at stations : ℕ) (vector : List ℕ) (from i : ℕ) (
   pub gathering-never : (p : NextFour) (r : List ℕ) → i < stations → p ≡ fourAt s from → p ≡ NoFour → vector ≡ r
   gathering-never p r h e f = absurd (omega (arith, no-four-given s from (sym e ∙ f), G .place, G .enough))
 
-  pub gathering-done : stations ≤ i → vector ≡ padded 16 (entries stations (drop at s))
+  pub gathering-done : stations ≤ i → vector ≡ padded greatestSize (entries stations (drop at s))
   unfolding entries read
   gathering-done h =
       let none : stations - i ≡ 0 = omega arith in
-      filling-done 16 (entries stations (drop at s)) vector (entries (stations - i) (drop from s)) i (G .filled) (rw none refl) (omega (arith, G .within, G .few))
+      filling-done greatestSize (entries stations (drop at s)) vector (entries (stations - i) (drop from s)) i (G .filled) (rw none refl) (omega (arith, G .within, G .few))

@@ -20,6 +20,7 @@ use Rattle.line_shape.specs.declared.NextFour.{NextFour}
 use Rattle.line_shape.specs.declared.NextFour.the-variants.{Four, NoFour}
 use Rattle.line_shape.proofs.Places.{after-enough, byte-there}
 use Rattle.line_shape.proofs.Taking.{passed, refused}
+use Rattle.meaning.specs.Table.{greatestSize}
 
 pub byte-found : (p : NextByte) (b next r : ℕ) → p ≡ Byte b next → r ≡ b → r ≡ byteOf p
 unfolding byteOf
@@ -52,7 +53,7 @@ module _ (kind : ℕ) (first second third : NextByte) (number : NextFour) (ended
   found-no-four r none e = none ∙ rw e refl
 
   pub found-there : (b k x y z value place : ℕ) → not ended ≡ false → b ≡ byteOf first → k ≡ kind → b ≡ k → number ≡ Four value place → x ≡ byteOf first → y ≡ byteOf second → z ≡ byteOf third
-      → _≡_ {A = Fields} (record { ok = true; head = x ∷ y ∷ z ∷ value ∷ 0 ∷ 0 ∷ []; vector = replicate 16 0 }) (foundFields kind first second third number ended)
+      → _≡_ {A = Fields} (record { ok = true; head = x ∷ y ∷ z ∷ value ∷ 0 ∷ 0 ∷ []; vector = replicate greatestSize 0 }) (foundFields kind first second third number ended)
   unfolding foundFields padded
   found-there b k x y z value place h e f g j ex ey ez = rw (j, passed ended h, eq-eqb (byteOf first) kind (sym e ∙ g ∙ f), ex, ey, ez) refl
 

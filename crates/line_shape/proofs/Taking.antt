@@ -11,12 +11,13 @@ use Rattle.line_hex.specs.Choice.{pick}
 use Rattle.line_hex.proofs.Digits.{and-left, and-right}
 use Rattle.line_shape.specs.Places.{atEnd, byteAt}
 use Rattle.line_shape.specs.Shapes.{lengthOf, narrow, read}
-use Rattle.line_shape.specs.Reading.{entries, fieldsRead, hasShape, Head, mostStations, padded, sizeOf, startsWith, unread}
+use Rattle.line_shape.specs.Reading.{entries, fieldsRead, hasShape, Head, padded, sizeOf, startsWith, unread}
 use Rattle.line_shape.specs.declared.Fields.{Fields}
 use Rattle.line_shape.specs.declared.NextByte.{NextByte}
 use Rattle.line_shape.specs.declared.NextByte.the-variants.{Byte, NoByte}
 use Rattle.line_shape.proofs.Places.{byte-given, no-byte-given}
 use Rattle.line_shape.proofs.Spelling.{length-of-narrow, length-read}
+use Rattle.meaning.specs.Table.{greatestSize}
 
 module _ (s : List ℕ) (size : ℕ) where
   pub ends-empty : (r : Bool) → r ≡ atEnd s size → size ≡ 0 → r ≡ eqb (length s) size
@@ -81,23 +82,23 @@ pub head-small : (widths : List ℕ) → Head widths → lengthOf widths ≤ 24
 head-small widths H = omega (arith, H .few, length-of-narrow widths (H .small))
 
 module _ (s widths : List ℕ) (kind stations : ℕ) where
-  pub fields-many : (r : Fields) → r ≡ unread → mostStations < stations → r ≡ fieldsRead kind widths stations s
+  pub fields-many : (r : Fields) → r ≡ unread → greatestSize < stations → r ≡ fieldsRead kind widths stations s
   unfolding fieldsRead
-  fields-many r none h = rw (lt-leb stations mostStations h) none
+  fields-many r none h = rw (lt-leb stations greatestSize h) none
 
-  pub fields-other : (r : Fields) → r ≡ unread → (at : ℕ) (ok : Bool) → stations ≤ mostStations → at ≡ lengthOf widths → ok ≡ hasShape kind (at + 4 * stations) s → ok ≡ false → r ≡ fieldsRead kind widths stations s
+  pub fields-other : (r : Fields) → r ≡ unread → (at : ℕ) (ok : Bool) → stations ≤ greatestSize → at ≡ lengthOf widths → ok ≡ hasShape kind (at + 4 * stations) s → ok ≡ false → r ≡ fieldsRead kind widths stations s
   unfolding fieldsRead
-  fields-other r none at ok h e f g = let shut : hasShape kind (sizeOf widths stations) s ≡ false = sym (ap (λ (k : ℕ). hasShape kind (k + 4 * stations) s) e) ∙ sym f ∙ g in rw (le-leb stations mostStations h, shut) none
+  fields-other r none at ok h e f g = let shut : hasShape kind (sizeOf widths stations) s ≡ false = sym (ap (λ (k : ℕ). hasShape kind (k + 4 * stations) s) e) ∙ sym f ∙ g in rw (le-leb stations greatestSize h, shut) none
 
   pub fields-enough : (at : ℕ) (ok : Bool) → ok ≡ hasShape kind (at + 4 * stations) s → ok ≡ true → at + 4 * stations ≤ length s
   unfolding hasShape
   fields-enough at ok f g = omega (arith, eqb-true (length s) (at + 4 * stations) (and-left (eqb (length s) (at + 4 * stations)) (startsWith kind s) (sym f ∙ g)))
 
-  pub fields-there : (at : ℕ) (ok : Bool) (head vector : List ℕ) → stations ≤ mostStations → at ≡ lengthOf widths → ok ≡ hasShape kind (at + 4 * stations) s → ok ≡ true
-      → head ≡ padded 6 (read widths s) → vector ≡ padded 16 (entries stations (drop at s))
+  pub fields-there : (at : ℕ) (ok : Bool) (head vector : List ℕ) → stations ≤ greatestSize → at ≡ lengthOf widths → ok ≡ hasShape kind (at + 4 * stations) s → ok ≡ true
+      → head ≡ padded 6 (read widths s) → vector ≡ padded greatestSize (entries stations (drop at s))
       → _≡_ {A = Fields} (record { ok = true; head = head; vector = vector }) (fieldsRead kind widths stations s)
   unfolding fieldsRead
-  fields-there at ok head vector h e f g eh ev = let fits : hasShape kind (sizeOf widths stations) s ≡ true = sym (ap (λ (k : ℕ). hasShape kind (k + 4 * stations) s) e) ∙ sym f ∙ g in rw (le-leb stations mostStations h, fits, eh, ev, e) refl
+  fields-there at ok head vector h e f g eh ev = let fits : hasShape kind (sizeOf widths stations) s ≡ true = sym (ap (λ (k : ℕ). hasShape kind (k + 4 * stations) s) e) ∙ sym f ∙ g in rw (le-leb stations greatestSize h, fits, eh, ev, e) refl
 
 -- widths are those of a head, by a test that computes
 pub is-head : (widths : List ℕ) → leb (length widths) 6 && narrow widths ≡ true → Head widths
@@ -108,23 +109,23 @@ unfolding padded
 length-padded n l h = length-append l (replicate (n - length l) 0) ∙ rw (length-replicate {A = ℕ} (n - length l) 0) (omega arith)
 
 -- a vector that was read has the length of its array
-pub length-vector : (s widths : List ℕ) (kind stations : ℕ) → length (fieldsRead kind widths stations s .vector) ≡ 16
+pub length-vector : (s widths : List ℕ) (kind stations : ℕ) → length (fieldsRead kind widths stations s .vector) ≡ greatestSize
 unfolding fieldsRead entries
-length-vector s widths kind stations = go (leb stations mostStations) (hasShape kind (sizeOf widths stations) s) refl
+length-vector s widths kind stations = go (leb stations greatestSize) (hasShape kind (sizeOf widths stations) s) refl
   where
     whole : Fields
-    whole = record { ok = true; head = padded 6 (read widths s); vector = padded 16 (entries stations (drop (lengthOf widths) s)) }
+    whole = record { ok = true; head = padded 6 (read widths s); vector = padded greatestSize (entries stations (drop (lengthOf widths) s)) }
 
-    go : (a b : Bool) → leb stations mostStations ≡ a → length (pick (a && b) whole unread .vector) ≡ 16
-    go true true e = length-padded 16 (entries stations (drop (lengthOf widths) s)) (rw (length-read (replicate stations 4) (drop (lengthOf widths) s), length-replicate {A = ℕ} stations 4) (leb-true stations mostStations e))
+    go : (a b : Bool) → leb stations greatestSize ≡ a → length (pick (a && b) whole unread .vector) ≡ greatestSize
+    go true true e = length-padded greatestSize (entries stations (drop (lengthOf widths) s)) (rw (length-read (replicate stations 4) (drop (lengthOf widths) s), length-replicate {A = ℕ} stations 4) (leb-true stations greatestSize e))
     go true false e = refl
     go false b e = refl
 
 -- and the fields of its head that of theirs
 pub length-head : (s widths : List ℕ) (kind stations : ℕ) → length widths ≤ 6 → length (fieldsRead kind widths stations s .head) ≡ 6
 unfolding fieldsRead
-length-head s widths kind stations h = go (leb stations mostStations && hasShape kind (sizeOf widths stations) s)
+length-head s widths kind stations h = go (leb stations greatestSize && hasShape kind (sizeOf widths stations) s)
   where
-    go : (t : Bool) → length (pick t (record { ok = true; head = padded 6 (read widths s); vector = padded 16 (entries stations (drop (lengthOf widths) s)) }) unread .head) ≡ 6
+    go : (t : Bool) → length (pick t (record { ok = true; head = padded 6 (read widths s); vector = padded greatestSize (entries stations (drop (lengthOf widths) s)) }) unread .head) ≡ 6
     go true = length-padded 6 (read widths s) (rw (length-read widths s) h)
     go false = refl

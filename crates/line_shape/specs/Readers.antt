@@ -6,13 +6,14 @@ use lib.Dec.{eqb, leb}
 use lib.ListN.{length, replicate}
 use denote.Ref.{now}
 use Rattle.line_hex.specs.Choice.{pick}
-use Rattle.line_shape.specs.Reading.{mostFields, mostStations, padded, unread}
+use Rattle.line_shape.specs.Reading.{mostFields, padded, unread}
 use Rattle.line_shape.specs.declared.Fields.{Fields}
 use Rattle.line_shape.specs.declared.NextByte.{NextByte}
 use Rattle.line_shape.specs.declared.NextByte.the-variants.{Byte, NoByte}
 use Rattle.line_shape.specs.declared.NextFour.{NextFour}
 use Rattle.line_shape.specs.declared.NextFour.the-variants.{Four, NoFour}
 use Rattle.line_shape.specs.declared.Reader.{Reader}
+use Rattle.meaning.specs.Table.{greatestSize}
 
 -- so many bytes further, or the same place where fewer are left
 unfoldable pub placeAfter : ℕ → List ℕ → ℕ → ℕ
@@ -35,6 +36,6 @@ shortWidths = 1 ∷ 1 ∷ 1 ∷ 4 ∷ []
 unfoldable pub foundFields : ℕ → NextByte → NextByte → NextByte → NextFour → Bool → Fields
 foundFields kind first second third (Four value place) ended =
     pick (ended && eqb (byteOf first) kind)
-    (record { ok = true; head = padded mostFields (byteOf first ∷ byteOf second ∷ byteOf third ∷ value ∷ []); vector = replicate mostStations 0 })
+    (record { ok = true; head = padded mostFields (byteOf first ∷ byteOf second ∷ byteOf third ∷ value ∷ []); vector = replicate greatestSize 0 })
     unread
 foundFields kind first second third NoFour ended = unread

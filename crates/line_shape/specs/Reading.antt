@@ -8,10 +8,7 @@ use lib.ListN.{length, drop, replicate}
 use Rattle.line_hex.specs.Choice.{pick}
 use Rattle.line_shape.specs.Shapes.{lengthOf, narrow, read}
 use Rattle.line_shape.specs.declared.Fields.{Fields}
-
--- "A group has N stations, 1 to 16"
-abbrev pub mostStations : ℕ
-mostStations = 16
+use Rattle.meaning.specs.Table.{greatestSize}
 
 -- no line has more fields before its entries
 abbrev pub mostFields : ℕ
@@ -43,10 +40,10 @@ abbrev pub sizeOf : List ℕ → ℕ → ℕ
 sizeOf widths stations = lengthOf widths + 4 * stations
 
 abbrev pub unread : Fields
-unread = record { ok = false; head = replicate mostFields 0; vector = replicate mostStations 0 }
+unread = record { ok = false; head = replicate mostFields 0; vector = replicate greatestSize 0 }
 
 unfoldable pub fieldsRead : ℕ → List ℕ → ℕ → List ℕ → Fields
 fieldsRead kind widths stations bytes =
-    pick (leb stations mostStations && hasShape kind (sizeOf widths stations) bytes)
-    (record { ok = true; head = padded mostFields (read widths bytes); vector = padded mostStations (entries stations (drop (lengthOf widths) bytes)) })
+    pick (leb stations greatestSize && hasShape kind (sizeOf widths stations) bytes)
+    (record { ok = true; head = padded mostFields (read widths bytes); vector = padded greatestSize (entries stations (drop (lengthOf widths) bytes)) })
     unread

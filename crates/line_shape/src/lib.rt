@@ -6,11 +6,9 @@ ghost use lib.ListN.{drop, length, take};
 ghost use Rattle.line_hex.specs.Numbers.{numberOf};
 ghost use Rattle.line_shape.specs.Places.{atEnd, byteAt, fourAt};
 ghost use Rattle.line_shape.specs.Readers.{byteOf, foundFields, placeAfter, readOn, shortWidths};
-ghost use Rattle.line_shape.specs.Reading.{entries, fieldsRead, hasShape, Head, mostFields, mostStations, padded, unread};
+ghost use Rattle.line_shape.specs.Reading.{entries, fieldsRead, hasShape, Head, mostFields, padded, unread};
 ghost use Rattle.line_shape.specs.Shapes.{lengthOf, read, widest};
-
-// A group has at most so many stations.
-pub const MOST_STATIONS: usize = 16;
+ghost use Rattle.meaning.specs.Table.{greatestSize};
 
 // A line has at most so many fields before its entries.
 pub const MOST_FIELDS: usize = 6;
@@ -43,7 +41,7 @@ pub struct Reader<'a> {
 pub struct Fields {
     pub ok: bool,
     pub head: [u32; MOST_FIELDS],
-    pub vector: [u32; MOST_STATIONS],
+    pub vector: [u32; meaning::MOST_STATIONS],
 }
 
 pub fn byte_at(s: &[u8], at: usize) -> NextByte
@@ -181,11 +179,11 @@ pub fn head_of(s: &[u8], widths: &[u8]) -> [u32; MOST_FIELDS]
 }
 
 // The entries from a place on.
-fn entries_at(s: &[u8], at: usize, stations: usize) -> [u32; MOST_STATIONS]
-    requires { ⌜ (stations ≤ mostStations) × (at + 4 * stations ≤ length (now s)) ⌝ }
-    ensures { λ r. ⌜ r ≡ padded mostStations (entries stations (drop at (now (s .entry)))) ⌝ }
+fn entries_at(s: &[u8], at: usize, stations: usize) -> [u32; meaning::MOST_STATIONS]
+    requires { ⌜ (stations ≤ greatestSize) × (at + 4 * stations ≤ length (now s)) ⌝ }
+    ensures { λ r. ⌜ r ≡ padded greatestSize (entries stations (drop at (now (s .entry)))) ⌝ }
 {
-    let mut vector = [0u32; MOST_STATIONS];
+    let mut vector = [0u32; meaning::MOST_STATIONS];
     let mut from = at;
     let mut i = 0;
     while i < stations {
@@ -236,7 +234,7 @@ fn no_fields() -> Fields
     Fields {
         ok: false,
         head: [0u32; MOST_FIELDS],
-        vector: [0u32; MOST_STATIONS],
+        vector: [0u32; meaning::MOST_STATIONS],
     }
 }
 
@@ -245,7 +243,7 @@ pub fn read_fields(s: &[u8], kind: u8, widths: &[u8], stations: usize) -> Fields
     requires { ⌜ Head (now widths) ⌝ }
     ensures { λ r. ⌜ r ≡ fieldsRead kind (now (widths .entry)) stations (now (s .entry)) ⌝ }
 {
-    if MOST_STATIONS < stations {
+    if meaning::MOST_STATIONS < stations {
         return no_fields();
     }
     let at = length_of(widths);
@@ -291,7 +289,7 @@ fn found_fields(
         NextFour::Four(value, _) => Fields {
             ok: true,
             head: [byte_of(first), byte_of(second), byte_of(third), value, 0, 0],
-            vector: [0u32; MOST_STATIONS],
+            vector: [0u32; meaning::MOST_STATIONS],
         },
         NextFour::NoFour => no_fields(),
     }

@@ -15,7 +15,7 @@ use Rattle.meaning.specs.Operations.{Operation, numberOf, valueLimit}
 use Rattle.meaning.specs.Arrival.{rowsAfter}
 use Rattle.meaning.specs.Table.{Header, Table, kindIn}
 use Rattle.meaning.specs.Questions.{Asked, Source, asksTotal, asksList, asksHolds, fits}
-use Rattle.meaning.specs.Refusals.{firstOf, Frame, Local, wellShaped, declared, operationAllowed, inTime, frameRefusals, roomFor, arrivalRefusals, refusalOfFrame, issuedBy, issueRefusals, localRefusals, refusalOfLocal, settlingRefusals, refusalOfSettling, wellAsked, listTooLong, askedRefusals, questionRefusals}
+use Rattle.meaning.specs.Refusals.{firstOf, Frame, Local, wellShaped, declared, operationAllowed, inTime, frameRefusals, roomFor, arrivalRefusals, refusalOfFrame, issuedBy, issueRefusals, localRefusals, refusalOfLocal, settlingRefusals, refusalOfSettling, wellAsked, listTooLong, askedRefusals, questionRefusals, greatestLimit}
 use Rattle.meaning.proofs.Tests.{cases, and-left, and-right, and-fails, and-rest, or-left-fails, or-right-fails, between-out, between-in}
 use Rattle.meaning.proofs.Vectors.{at-most-at, at-most-by, raised-at}
 use Rattle.meaning.proofs.Refusals.{exactly-when}
@@ -199,9 +199,9 @@ pub question-exactly : (header : Header) (source : Source) (room : ℕ) (asked :
 question-exactly header source room asked = (question-taken header source room asked, question-passes header source room asked)
 
 -- "A settling call carries a limit, 0 to 65,535": it is refused exactly when the limit is higher.
-pub settling-exactly : (limit : ℕ) → (refusalOfSettling limit ≡ 0) ↔ (limit ≤ 65535)
+pub settling-exactly : (limit : ℕ) → (refusalOfSettling limit ≡ 0) ↔ (limit ≤ greatestLimit)
 unfolding refusalOfSettling settlingRefusals
 settling-exactly limit = (
-  λ e. leb-true limit 65535 (not-false (leb limit 65535) (exactly-when .settling limit .exactly .none-when e 0)),
-  λ h. rw (le-leb limit 65535 h),
+  λ e. leb-true limit greatestLimit (not-false (leb limit greatestLimit) (exactly-when .settling limit .exactly .none-when e 0)),
+  λ h. rw (le-leb limit greatestLimit h),
 )

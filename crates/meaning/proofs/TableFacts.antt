@@ -14,7 +14,7 @@ use Rattle.meaning.specs.Tests.{every, everyAt, between}
 use Rattle.meaning.specs.Order.{Vector, entryLimit, atMost, same, othersOf, lowOf}
 use Rattle.meaning.specs.Operations.{Operation, numberOf, valueAllowed}
 use Rattle.meaning.specs.Rows.{Row, settledRow, inOrder}
-use Rattle.meaning.specs.Table.{Header, Table, kindIn, low, headerRules, inRange, clockRule, lastRule, lastsRule, totalRule, totalsRule, storable, settledOnly, tagRule, rowRule, oneRowAValue, tableRules, isTable}
+use Rattle.meaning.specs.Table.{Header, Table, kindIn, low, headerRules, inRange, clockRule, lastRule, lastsRule, totalRule, totalsRule, storable, settledOnly, tagRule, rowRule, oneRowAValue, tableRules, isTable, greatestSize, greatestCapacity, mostObjects}
 use Rattle.meaning.proofs.Tests.{cases, and-left, and-right, and-both, fails-not, not-holds, or-cases, or-left, or-right, every-out, every-in, every-at, at-every, rule-at, between-out}
 use Rattle.meaning.proofs.Vectors.{at-most-trans, same-eq, eq-same, low-under, others-mem, others-first}
 use Rattle.meaning.proofs.Ascending.{Sorted, order-sorted, sorted-order}
@@ -127,11 +127,11 @@ every-place p (y ∷ l) e (suc i) h = every-place p l (and-right (p y) (every p 
 
 -- "group size, own station, object count, kind or capacity" in range.
 pub record HeaderFacts (header : Header) : Type 0 where
-  pub size-range : (1 ≤ header .size) × (header .size ≤ 16)
+  pub size-range : (1 ≤ header .size) × (header .size ≤ greatestSize)
   pub own-in : header .own < header .size
-  pub objects-range : (1 ≤ length (header .kinds)) × (length (header .kinds) ≤ 32)
+  pub objects-range : (1 ≤ length (header .kinds)) × (length (header .kinds) ≤ mostObjects)
   pub kind-range : (o : ℕ) → o < length (header .kinds) → (1 ≤ kindIn header o) × (kindIn header o ≤ 9)
-  pub capacity-range : (1 ≤ header .capacity) × (header .capacity ≤ 512)
+  pub capacity-range : (1 ≤ header .capacity) × (header .capacity ≤ greatestCapacity (header .size))
 
 -- "header in opening's ranges"
 pub header-facts : (header : Header) → inRange header ≡ true → HeaderFacts header
@@ -139,11 +139,11 @@ unfolding inRange headerRules kindIn
 header-facts header e =
     let rule = rule-at (headerRules header) e in
     record {
-      size-range = between-out 1 16 (header .size) (rule 0);
+      size-range = between-out 1 greatestSize (header .size) (rule 0);
       own-in = ltb-true (header .own) (header .size) (rule 1);
-      objects-range = between-out 1 32 (length (header .kinds)) (rule 2);
+      objects-range = between-out 1 mostObjects (length (header .kinds)) (rule 2);
       kind-range = λ o h. between-out 1 9 (getD (header .kinds) o 0) (every-place (between 1 9) (header .kinds) (rule 3) o h);
-      capacity-range = between-out 1 512 (header .capacity) (rule 4);
+      capacity-range = between-out 1 (greatestCapacity (header .size)) (header .capacity) (rule 4);
     }
 
 -- "Table rules: header in opening's ranges; L[k] at or below D with L[k][k] = D[k]; ...": each rule, as a fact of a table that meets them.

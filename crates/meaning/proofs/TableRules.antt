@@ -13,7 +13,7 @@ use lib.Seq.{getD-set-same, getD-set-other}
 use borrow.Author.Tests.{ltb-true, ltb-false, leb-true, eqb-true, eqb-false, not-false, lt-ltb, le-ltb, le-leb, eq-eqb, ne-eqb}
 use Rattle.meaning.specs.Tests.{any, every, those}
 use Rattle.meaning.specs.Order.{Vector, entryLimit, atMost, raised, same}
-use Rattle.meaning.specs.Operations.{Operation, numberOf, isCounter, removesStand, codesOf, codeAllowed, valueAllowed, allowed}
+use Rattle.meaning.specs.Operations.{Operation, numberOf, isCounter, removesStand, codesOf, codeAllowed, valueAllowed, allowed, greatestAmount}
 use Rattle.meaning.specs.Meaning.{on, removeOf}
 use Rattle.meaning.specs.Rows.{Row, unsettledRow, settledRow, keyOf, lowerKey, lowerRow, insertRow}
 use Rattle.meaning.specs.Arrival.{getsRow, withRow, takenBy, taggedArrival, sameValue, settledArrival, rowsAfter, amountOf, totalsAfter}
@@ -77,7 +77,7 @@ unfolding amountOf codesOf isNegative
 still-positive (pos n) u c e = rw (allowed-code (λ (code : ℕ). eqb code 1 ≡ true) 1 (u .code) c (refl, tt))
 still-positive (negsuc n) u c e = absurd (false≢true (sym e))
 
-rule-added : (kind bound bound′ : ℕ) (total : ℤ) (u : Operation) → isCounter kind ≡ true → codeAllowed kind (u .code) ≡ true → u .value ≤ 1000000 → bound + 1000000 ≤ bound′ → ruleAt kind bound total ≡ true → ruleAt kind bound′ (total +ℤ amountOf u) ≡ true
+rule-added : (kind bound bound′ : ℕ) (total : ℤ) (u : Operation) → isCounter kind ≡ true → codeAllowed kind (u .code) ≡ true → u .value ≤ greatestAmount → bound + greatestAmount ≤ bound′ → ruleAt kind bound total ≡ true → ruleAt kind bound′ (total +ℤ amountOf u) ≡ true
 rule-added kind bound bound′ total u counter code value h e =
     let f = rw counter at e in
     let small = leb-true (natAbs total) bound (and-left (leb (natAbs total) bound) (not (eqb kind 1 && isNegative total)) f) in
@@ -379,13 +379,13 @@ module _ (table : Table) (u : Operation) (last′ : List Vector) (F : Facts tabl
   unfolding totalsAfter
   totals-long = cases (isCounter kind) (λ q. rw q (length-set (table .totals) (u .object) (getD (table .totals) (u .object) (pos 0) +ℤ amountOf u) ∙ F .totals-length)) (λ q. rw q (F .totals-length))
 
-  more : totalBound (table .clock) + 1000000 ≤ totalBound (raised (table .clock) (u .sender))
+  more : totalBound (table .clock) + greatestAmount ≤ totalBound (raised (table .clock) (u .sender))
   unfolding totalBound
   more = let s = sum-raised (table .clock) (u .sender) here in omega arith
 
-  amount-small : isCounter kind ≡ true → u .value ≤ 1000000
+  amount-small : isCounter kind ≡ true → u .value ≤ greatestAmount
   unfolding valueAllowed
-  amount-small q = between-out 1 1000000 (u .value) (rw q at (B .value-allowed)) .1
+  amount-small q = between-out 1 greatestAmount (u .value) (rw q at (B .value-allowed)) .1
 
   total-after : (o : ℕ) → o < length (table .header .kinds) → totalRule (afterArrival table u last′) o (getD (totalsAfter kind u (table .totals)) o (pos 0)) ≡ true
   unfolding afterArrival totalRule totalsAfter
@@ -626,7 +626,7 @@ opens space needed header = record {
         (not-false (inRange header) (or-left-fails (not (inRange header)) (ltb space needed) q), ltb-false space needed (or-right-fails (not (inRange header)) (ltb space needed) q), same))
 
 -- a sum of entries of 32 bits
-sum-small : (vector : Vector) → every (λ (entry : ℕ). ltb entry entryLimit) vector ≡ true → sumOfEntries vector ≤ 4294967296 * length vector
+sum-small : (vector : Vector) → every (λ (entry : ℕ). ltb entry entryLimit) vector ≡ true → sumOfEntries vector ≤ entryLimit * length vector
 sum-small [] e = omega arith
 sum-small (entry ∷ vector) e =
     let small = ltb-true entry entryLimit (and-left (ltb entry entryLimit) (every (λ (entry : ℕ). ltb entry entryLimit) vector) e) in
@@ -647,7 +647,7 @@ total-fits table is o d =
     let long = F .clock-length in
     let sum = sum-small (table .clock) (F .clock-words) in
     cases (isCounter kind)
-    (λ q. let small = leb-true (natAbs total) (1000000 * sumOfEntries (table .clock)) (and-left within sign (rw q at rule)) in omega arith)
+    (λ q. let small = leb-true (natAbs total) (greatestAmount * sumOfEntries (table .clock)) (and-left within sign (rw q at rule)) in omega arith)
     (λ q. let none = eqb-true (natAbs total) 0 (rw q at rule) in omega arith)
 
 all-kept : (events : List Event) (station : Station) → isTable (station .table) ≡ true → isTable (afterAll events station .table) ≡ true

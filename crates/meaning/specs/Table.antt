@@ -39,13 +39,19 @@ low table = lowOf (table .clock) (othersOf (table .header .own) (table .last))
 unfoldable pub stable : Table → Operation → Bool
 stable table u = stableBy (low table) u
 
--- "A group has N stations, 1 to 16"; "A table has 1 to 32 objects"; "at most its capacity of rows, 1 to 512".
+-- "A group has N stations, 1 to 16".
 abbrev pub greatestSize : ℕ
 greatestSize = 16
 
-abbrev pub greatestCapacity : ℕ
-greatestCapacity = 512
+-- "at most its capacity of rows, 1 to 512": the most rows of any table.
+abbrev pub mostRows : ℕ
+mostRows = 512
 
+-- The greatest capacity of a group of N stations, the same for every N.
+abbrev pub greatestCapacity : ℕ → ℕ
+greatestCapacity size = mostRows
+
+-- "A table has 1 to 32 objects", of nine kinds.
 abbrev pub mostObjects : ℕ
 mostObjects = 32
 
@@ -59,7 +65,7 @@ headerRules header =
     ∷ ltb (header .own) (header .size)
     ∷ between 1 mostObjects (length (header .kinds))
     ∷ every (between 1 greatestKind) (header .kinds)
-    ∷ between 1 greatestCapacity (header .capacity)
+    ∷ between 1 (greatestCapacity (header .size)) (header .capacity)
     ∷ []
 
 -- "header in opening's ranges"

@@ -23,11 +23,12 @@ use Rattle.calls.proofs.Answering.{answer-fits}
 use Rattle.form_judge.specs.declared.Judged.{Judged}
 use Rattle.form_judge.specs.declared.Judged.the-variants as judged
 use Rattle.form_judge.specs.Judging.{printing, resavedBy, resavedLines}
+use Rattle.call_question.specs.AnswerBytes.{longestAnswerBytes}
 
 -- every output line has so many bytes at most
 abbrev Fit : List (List ℕ) → Type 0
 Fit [] = Unit {0}
-Fit (bytes ∷ rest) = (length bytes ≤ 2051) × Fit rest
+Fit (bytes ∷ rest) = (length bytes ≤ longestAnswerBytes) × Fit rest
 
 form-fit : (lines : List (List ℕ)) → Short lines → Fit lines
 form-fit [] s = tt

@@ -12,7 +12,7 @@ use Rattle.words_layout.specs.Layout.{holdsTable, tableOf}
 use Rattle.line_hex.specs.Choice.{pick}
 use Rattle.line_read.specs.Named.{printingRead}
 use Rattle.line_decode.specs.Decoding.{bytesOf}
-use Rattle.form_write.specs.Forms.{savedForm}
+use Rattle.form_write.specs.Forms.{savedForm, mostFormLines}
 use Rattle.calls.specs.declared.Answered.{Answered}
 use Rattle.calls.specs.declared.Answered.the-variants.{Line, End}
 use Rattle.calls.specs.Answers.{answerOf, answeredBy, linesFor, printedAt, spaceAfter}
@@ -23,6 +23,7 @@ use Rattle.form_judge.specs.Judging.{resavedBy, resavedLines}
 use Rattle.form_judge.proofs.Resaving.{resaved-count}
 use Rattle.program_output.specs.Gathering.{Gathered, gathered, HasRoom, pushed, replied, reprinted}
 use Rattle.program_output.proofs.Gathering.{all-gathered, no-more, one-more}
+use Rattle.call_answer.specs.Answering.{frameRoom}
 
 module _ (line words₀ : List ℕ) where
   -- the table space once the line is taken
@@ -36,7 +37,7 @@ module _ (line words₀ : List ℕ) where
   later-lines : (k : ℕ) (out : List ℕ) → printedAt (linesFor line after) (suc k) out ≡ printedAt lines (suc k) out
   unfolding linesFor printedAt spaceAfter
   later-lines k out = cases (printingRead (bytesOf line))
-      (λ q. ap (λ (w : List ℕ). printedAt (linesFor line w) (suc k) out) (printing-stays line words₀ (replicate 149 0) (printing-type line q) (omega (arith, length-replicate {A = ℕ} 149 0)) 0))
+      (λ q. ap (λ (w : List ℕ). printedAt (linesFor line w) (suc k) out) (printing-stays line words₀ (replicate frameRoom 0) (printing-type line q) (omega (arith, length-replicate {A = ℕ} frameRoom 0)) 0))
       (λ q. rw q (by (holdsTable after) (holdsTable words₀) (answerOf line after .0) (answerOf line words₀ .0)))
     where
       by : (a b : Bool) (x y : List ℕ) → printedAt (pick (a && false) (savedForm (tableOf after)) (x ∷ [])) (suc k) out ≡ printedAt (pick (b && false) (savedForm (tableOf words₀)) (y ∷ [])) (suc k) out
@@ -74,7 +75,7 @@ space-told (suc k) line words₀ words out r x y e s = later-told line words₀ 
 pub record Replying (line words₀ : List ℕ) (count₀ : ℕ) (pending₀ words : List ℕ) (count : ℕ) (pending : List ℕ) (k : ℕ) : Type 0 where
   pub left : gathered (linesFor line words₀) (count₀, pending₀) ≡ gathered (drop k (linesFor line words₀)) (count, pending)
   pub space-is : Space k line words₀ words
-  pub place : k ≤ 562
+  pub place : k ≤ mostFormLines
   pub has-room : HasRoom count pending
   pub words-long : length words ≡ length words₀
   pub pending-long : length pending ≡ length pending₀
@@ -88,7 +89,7 @@ module _ (line words₀ : List ℕ) (count₀ : ℕ) (pending₀ : List ℕ) whe
       asked : ((r, y) ≡ printedAt (linesFor line words₀) k out) × (x ≡ answerOf line words₀ .1)
       asked = space-told k line words₀ words out r x y e (R .space-is)
 
-      pub replying-turn : k < 562 → (n : ℕ) → r ≡ Line n → (m : ℕ) (p : List ℕ) → (m, p) ≡ pushed (take (n - 0) y) (count, pending) → HasRoom m p → length x ≡ length words → length p ≡ length pending → Replying line words₀ count₀ pending₀ x m p (k + 1)
+      pub replying-turn : k < mostFormLines → (n : ℕ) → r ≡ Line n → (m : ℕ) (p : List ℕ) → (m, p) ≡ pushed (take (n - 0) y) (count, pending) → HasRoom m p → length x ≡ length words → length p ≡ length pending → Replying line words₀ count₀ pending₀ x m p (k + 1)
       replying-turn h n f m p g w v u = record {
         left = one-more (linesFor line words₀) (count₀, pending₀) k count pending (R .left) out r y (asked .0) n m p f g;
         space-is = rw (add-one k) (asked .1);
@@ -102,7 +103,7 @@ module _ (line words₀ : List ℕ) (count₀ : ℕ) (pending₀ : List ℕ) whe
       unfolding replied
       replying-ended f = ap₂ (λ (w : List ℕ) (g : Gathered). (w, g)) (asked .1) (sym (no-more (linesFor line words₀) (count₀, pending₀) k count pending (R .left) out r y (asked .0) f))
 
-    pub replying-done : 562 ≤ k → (words, (count, pending)) ≡ replied line (words₀, (count₀, pending₀))
+    pub replying-done : mostFormLines ≤ k → (words, (count, pending)) ≡ replied line (words₀, (count₀, pending₀))
     unfolding replied
     replying-done h =
         let many = lines-count line words₀ in
@@ -112,7 +113,7 @@ module _ (line words₀ : List ℕ) (count₀ : ℕ) (pending₀ : List ℕ) whe
 pub record Printing (known : Judged) (words₀ : List ℕ) (count₀ : ℕ) (pending₀ words : List ℕ) (count : ℕ) (pending : List ℕ) (k : ℕ) : Type 0 where
   pub left : gathered (resavedLines known words₀) (count₀, pending₀) ≡ gathered (drop k (resavedLines known words₀)) (count, pending)
   pub space-is : words ≡ words₀
-  pub place : k ≤ 562
+  pub place : k ≤ mostFormLines
   pub has-room : HasRoom count pending
   pub words-long : length words ≡ length words₀
   pub pending-long : length pending ≡ length pending₀
@@ -129,7 +130,7 @@ module _ (known : Judged) (words₀ : List ℕ) (count₀ : ℕ) (pending₀ : L
           let f : (r, (x, y)) ≡ resavedBy known k words₀ out = e ∙ ap (λ (w : List ℕ). resavedBy known k w out) (P .space-is) in
           (ap (λ (q : Answered × (List ℕ × List ℕ)). (q .0, q .1 .1)) f, ap (λ (q : Answered × (List ℕ × List ℕ)). q .1 .0) f)
 
-      pub printing-turn : k < 562 → (n : ℕ) → r ≡ Line n → (m : ℕ) (p : List ℕ) → (m, p) ≡ pushed (take (n - 0) y) (count, pending) → HasRoom m p → length x ≡ length words → length p ≡ length pending → Printing known words₀ count₀ pending₀ x m p (k + 1)
+      pub printing-turn : k < mostFormLines → (n : ℕ) → r ≡ Line n → (m : ℕ) (p : List ℕ) → (m, p) ≡ pushed (take (n - 0) y) (count, pending) → HasRoom m p → length x ≡ length words → length p ≡ length pending → Printing known words₀ count₀ pending₀ x m p (k + 1)
       printing-turn h n f m p g w v u = record {
         left = one-more (resavedLines known words₀) (count₀, pending₀) k count pending (P .left) out r y (printed .0) n m p f g;
         space-is = printed .1;
@@ -143,7 +144,7 @@ module _ (known : Judged) (words₀ : List ℕ) (count₀ : ℕ) (pending₀ : L
       unfolding reprinted
       printing-ended f = ap₂ (λ (w : List ℕ) (g : Gathered). (w, g)) (printed .1) (sym (no-more (resavedLines known words₀) (count₀, pending₀) k count pending (P .left) out r y (printed .0) f))
 
-    pub printing-done : 562 ≤ k → (words, (count, pending)) ≡ reprinted known (words₀, (count₀, pending₀))
+    pub printing-done : mostFormLines ≤ k → (words, (count, pending)) ≡ reprinted known (words₀, (count₀, pending₀))
     unfolding reprinted
     printing-done h =
         let many = resaved-count known words₀ in

@@ -9,6 +9,10 @@ use Rattle.calls.specs.Answers.{answerOf, linesFor, longestAnswer}
 use Rattle.form_judge.specs.declared.Judged.{Judged}
 use Rattle.form_judge.specs.Judging.{resavedLines}
 
+-- The characters of the space in which a program's output waits.
+abbrev pub pendingRoom : ℕ
+pendingRoom = 65536
+
 -- The output that waits: so many characters at the front of its space.
 abbrev pub Gathered : Type 0
 Gathered = ℕ × List ℕ

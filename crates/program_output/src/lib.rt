@@ -8,17 +8,17 @@ use calls::Answered;
 use form_judge::Judged;
 use libc::STDOUT_FILENO;
 
-// The spaces of a program. The words of the greatest table: 16 stations, 512 rows.
-pub const MOST_WORDS: usize = 12151;
-
 // The characters of the longest line. Of a longer one so many are kept, which get what the whole line gets (law `line-answered` of `keeping`).
-pub const LINE: usize = 2 * line_read::LONGEST + 1;
+pub const LINE: usize = line_read::LINE_ROOM;
 
 // The characters of the output that waits to be written at once.
 pub const PENDING: usize = 65536;
 
-// The output lines of the longest answer, a saved form: its opening, D, 15 last vectors, 32 totals, 512 rows, its closing line.
-const MOST_LINES: usize = 562;
+// The output lines of the longest answer, a saved form: its opening, D, the other last vectors, the totals, the rows, its closing line.
+const MOST_LINES: usize = 2 + meaning::MOST_STATIONS - 1
+    + meaning::MOST_OBJECTS
+    + meaning::MOST_ROWS as usize
+    + 1;
 
 // How many characters wait to be written, and whether the output still takes any.
 pub struct Waiting {

@@ -15,7 +15,7 @@ use Rattle.meaning.specs.Table.{Header, Table, kindIn}
 use Rattle.meaning.specs.Questions.{Asked, Source, total, flag, count, holds, fits, byRows, answerFrom}
 use Rattle.meaning.specs.Refusals.{_when_, firstOf, declared, wellAsked, listTooLong, askedRefusals, questionRefusals}
 use Rattle.meaning.specs.Calls.{Reply, refused, tooLong, answered, replyOf, askOf, ask}
-use Rattle.words_layout.specs.Layout.{tableOf, objectsIn, sizeIn, countIn, totalWords, totalOfWords}
+use Rattle.words_layout.specs.Layout.{tableOf, objectsIn, sizeIn, countIn, totalWords, totalOfWords, totalsAt}
 use Rattle.words_layout.proofs.RowWords.{high-of, low-of}
 use Rattle.words_layout.proofs.Spelling.{code-read}
 use Rattle.table_change.proofs.Changing.{opened}
@@ -28,17 +28,18 @@ use Rattle.refusal_order.proofs.Chains.{asked-by-kinds}
 use Rattle.question.specs.Replies.{replied, listReply}
 use Rattle.question.specs.declared.Reply as code
 use Rattle.question.specs.declared.Reply.the-variants as says
+use Rattle.words_layout.specs.Words.{wordLimit}
 
 -- two words, read as a total and written again
-words-back : (h l : ℕ) → h < 4294967296 → l < 4294967296 → totalWords (totalOfWords (h ∷ l ∷ [])) ≡ h ∷ l ∷ []
-words-back h l p q = rw (code-read (h * 4294967296 + l) (omega arith), high-of h l q, low-of h l q) refl
+words-back : (h l : ℕ) → h < wordLimit → l < wordLimit → totalWords (totalOfWords (h ∷ l ∷ [])) ≡ h ∷ l ∷ []
+words-back h l p q = rw (code-read (h * wordLimit + l) (omega arith), high-of h l q, low-of h l q) refl
 
-pub total-words : (s : List ℕ) → Checked s → (object o : ℕ) → object < objectsIn s → o ≡ object → ((i : ℕ) → Fits w32 (getD s i 0)) → getD s (39 + o * 2) 0 ∷ getD s (39 + o * 2 + 1) 0 ∷ [] ≡ totalWords (byRows (tableOf s) .totalAt object)
+pub total-words : (s : List ℕ) → Checked s → (object o : ℕ) → object < objectsIn s → o ≡ object → ((i : ℕ) → Fits w32 (getD s i 0)) → getD s (totalsAt + o * 2) 0 ∷ getD s (totalsAt + o * 2 + 1) 0 ∷ [] ≡ totalWords (byRows (tableOf s) .totalAt object)
 unfolding byRows
 total-words s K object o h e known =
-    let high : getD s (39 + o * 2) 0 < 4294967296 = omega (arith, known (39 + o * 2)) in
-    let low : getD s (39 + o * 2 + 1) 0 < 4294967296 = omega (arith, known (39 + o * 2 + 1)) in
-    sym (words-back (getD s (39 + o * 2) 0) (getD s (39 + o * 2 + 1) 0) high low)
+    let high : getD s (totalsAt + o * 2) 0 < wordLimit = omega (arith, known (totalsAt + o * 2)) in
+    let low : getD s (totalsAt + o * 2 + 1) 0 < wordLimit = omega (arith, known (totalsAt + o * 2 + 1)) in
+    sym (words-back (getD s (totalsAt + o * 2) 0) (getD s (totalsAt + o * 2 + 1) 0) high low)
     ∙ rw (sym e) (ap (λ (z : ℤ). totalWords z) (old-total s (sizeIn s) (countIn s) o (opened s (sizeIn s) (countIn s) (K .laid) refl refl) (omega arith)))
 
 -- a list that is asked for, and counted

@@ -59,7 +59,7 @@ pub fn ask_table(s: &[u32], object: u32, question: u32, value: u32, out: &mut [u
 {
     let end = KINDS_AT + words_tags::wide(s[OBJECTS_AT]);
     let refusal = refusal_order::question_refusal(&s[KINDS_AT..end], object, question, value);
-    if refusal != refusal_order::NONE {
+    if refusal != refusal_number::NONE {
         return Reply::Refused(refusal);
     }
     if question == refusal_kind::ASKS_TOTAL {

@@ -11,7 +11,7 @@ use lib.Seq.{take-all}
 use Rattle.meaning.specs.Rows.{Row}
 use Rattle.meaning.specs.Questions.{byRows}
 use Rattle.words_layout.specs.Words.{pieces}
-use Rattle.words_layout.specs.Layout.{tableOf, rowOf, rowsAt, rowWidth, sizeIn, countIn}
+use Rattle.words_layout.specs.Layout.{tableOf, rowOf, rowsAt, rowWidth, sizeIn, countIn, clockAt}
 use Rattle.table_rules.specs.Checked.{Checked}
 use Rattle.question_scan.specs.Showing.{countShown, valueShown}
 use Rattle.question_scan.proofs.Tabled.{table-count, table-in}
@@ -24,13 +24,13 @@ module _ (s : List ℕ) (K : Checked s) (n : ℕ) (e : n ≡ sizeIn s) where
   pub square-fits : Fits w64 (n * n)
   square-fits = omega (arith, square-small)
 
-  pub start-fits : Fits w64 (103 + n + n * n)
+  pub start-fits : Fits w64 (clockAt + n + n * n)
   start-fits = omega (arith, square-small, K .few, e)
 
-  pub start-is : 103 + n + n * n ≡ rowsAt (sizeIn s)
+  pub start-is : clockAt + n + n * n ≡ rowsAt (sizeIn s)
   start-is = rw e refl
 
-  pub start-within : 103 + n + n * n ≤ length s
+  pub start-within : clockAt + n + n * n ≤ length s
   start-within = rw e (omega (arith, K .room))
 
 -- the part of the words from the first row on

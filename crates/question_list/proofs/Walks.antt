@@ -11,13 +11,13 @@ use mir.Syntax.{w32, w64}
 use lib.Dec.{eqb, leb}
 use lib.ListN.{length, getD, take, drop, drop-of-length-le}
 use lib.Seq.{drop-drop, getD-take, getD-drop}
-use Rattle.meaning.specs.Operations.{isCounter, isFlag, clears, valueAllowed}
+use Rattle.meaning.specs.Operations.{isCounter, isFlag, clears, valueAllowed, valueLimit, greatestAmount}
 use Rattle.meaning.specs.Rows.{Row}
 use Rattle.meaning.specs.Table.{Table, isTable, kindIn}
 use Rattle.meaning.proofs.Tests.{cases, between-out}
 use Rattle.meaning.proofs.TableFacts.{facts}
 use Rattle.words_layout.specs.Words.{pieces, ofTwoWords}
-use Rattle.words_layout.specs.Layout.{tableOf, rowOf, rowsAt, rowWidth, sizeIn, countIn}
+use Rattle.words_layout.specs.Layout.{tableOf, rowOf, rowsAt, rowWidth, sizeIn, countIn, mostWords, mostBeforeRows, mostRowWords}
 use Rattle.table_rules.specs.Checked.{Checked}
 use Rattle.question_scan.specs.Showing.{shows, shown, beforeShown}
 use Rattle.question_scan.proofs.Listing.{rows-number}
@@ -26,18 +26,18 @@ use Rattle.question_list.specs.Walking.{valuesBehind, nextValue}
 use Rattle.question_list.specs.declared.Found.{Found}
 
 -- "Other values are any 32-bit number"
-value-small : (kind code value : ℕ) → valueAllowed kind code value ≡ true → value < 4294967296
+value-small : (kind code value : ℕ) → valueAllowed kind code value ≡ true → value < valueLimit
 unfolding valueAllowed
 value-small kind code value h = cases (isCounter kind)
-    (λ q. omega (arith, between-out 1 1000000 value (rw q at h) .1))
+    (λ q. omega (arith, between-out 1 greatestAmount value (rw q at h) .1))
     (λ q. let h1 = rw q at h in cases (isFlag kind || eqb code clears)
     (λ p. omega (arith, eqb-true value 0 (rw p at h1)))
-    (λ p. ltb-true value 4294967296 (rw p at h1)))
+    (λ p. ltb-true value valueLimit (rw p at h1)))
 
-row-small : (table : Table) → isTable table ≡ true → (row : Row) → List·Memᴰ row (table .rows) → row .operation .value < 4294967296
+row-small : (table : Table) → isTable table ≡ true → (row : Row) → List·Memᴰ row (table .rows) → row .operation .value < valueLimit
 row-small table h row m = value-small (kindIn (table .header) (row .operation .object)) (row .operation .code) (row .operation .value) (facts table h .row-facts row m .value-allowed)
 
-shown-small : (o : ℕ) (rows : List Row) → ((row : Row) → List·Memᴰ row rows → row .operation .value < 4294967296) → (k v : ℕ) (rest : List ℕ) → shown o (drop k rows) ≡ v ∷ rest → v < 4294967296
+shown-small : (o : ℕ) (rows : List Row) → ((row : Row) → List·Memᴰ row rows → row .operation .value < valueLimit) → (k v : ℕ) (rest : List ℕ) → shown o (drop k rows) ≡ v ∷ rest → v < valueLimit
 shown-small o [] f zero v rest e = absurd (let z = ap (λ (l : List ℕ). length l) e in omega (arith, z))
 shown-small o [] f (suc k) v rest e = absurd (let z = ap (λ (l : List ℕ). length l) e in omega (arith, z))
 shown-small o (row ∷ rows) f (suc k) v rest e = shown-small o rows (λ r m. f r (List·Memᴰ·tail m)) k v rest e
@@ -85,10 +85,10 @@ module _ (s : List ℕ) (K : Checked s) (passed o : ℕ) (some : 0 < length (val
     words-left : p * w + more * w ≡ countIn s * w
     words-left = let e : countIn s ≡ p + more = omega (arith, passed-most) in sym (ap (λ (k : ℕ). k * w) e ∙ add-mul p more w)
 
-    area : countIn s * w ≤ 11776
+    area : countIn s * w ≤ mostRowWords
     area = rw ew (K .area)
 
-    start-small : start ≤ 375
+    start-small : start ≤ mostBeforeRows
     start-small = rw es (omega (arith, K .few, K .square))
 
     pub passed-fits : Fits w64 (p * w)
@@ -136,7 +136,7 @@ module _ (s : List ℕ) (K : Checked s) (passed o : ℕ) (some : 0 < length (val
         row-room : at + w ≤ length s
         row-room = omega (arith, row-words, rest-room)
 
-        row-small-at : at + w ≤ 12151
+        row-small-at : at + w ≤ mostWords
         row-small-at = omega (arith, row-words, words-left, area, start-small)
 
         pub before-fits : Fits w64 (q * w)

@@ -16,7 +16,7 @@ use Rattle.meaning.specs.Rows.{Row}
 use Rattle.meaning.specs.Arrival.{sameValue}
 use Rattle.meaning.proofs.Tests.{iff, and-left, and-right, and-true}
 use Rattle.meaning.proofs.Steps.{and-false}
-use Rattle.words_layout.specs.Words.{pieces, ofTwoWords}
+use Rattle.words_layout.specs.Words.{pieces, ofTwoWords, wordLimit}
 use Rattle.words_layout.specs.Layout.{rowOf}
 use Rattle.question_scan.specs.Showing.{followed, shows, shown, showsValue, valueShown, beforeShown, countShown, sameKey}
 use Rattle.question_scan.proofs.Listing.{before-most, shown-none, shown-next, rows-number, rows-behind}
@@ -26,7 +26,7 @@ word-at : (s : List ℕ) (w at i : ℕ) → i < w → getD (take w (drop at s)) 
 word-at s w at i h = getD-take w (drop at s) i 0 h ∙ getD-drop at s i 0
 
 -- two values are the same where their words are
-value-words : (h l h′ l′ : ℕ) → l < 4294967296 → l′ < 4294967296 → eqb (ofTwoWords h l) (ofTwoWords h′ l′) ≡ (eqb h h′ && eqb l l′)
+value-words : (h l h′ l′ : ℕ) → l < wordLimit → l′ < wordLimit → eqb (ofTwoWords h l) (ofTwoWords h′ l′) ≡ (eqb h h′ && eqb l l′)
 value-words h l h′ l′ p q = iff (eqb (ofTwoWords h l) (ofTwoWords h′ l′)) (eqb h h′ && eqb l l′)
     (λ e. let k = eqb-true (ofTwoWords h l) (ofTwoWords h′ l′) e in let a : h ≡ h′ = omega arith in let b : l ≡ l′ = omega arith in rw (eq-eqb h h′ a, eq-eqb l l′ b) refl)
     (λ e. let a = eqb-true h h′ (and-left (eqb h h′) (eqb l l′) e) in let b = eqb-true l l′ (and-right (eqb h h′) (eqb l l′) e) in eq-eqb (ofTwoWords h l) (ofTwoWords h′ l′) (omega arith))

@@ -10,7 +10,7 @@ use mir.Syntax.{w32}
 use lib.Dec.{leb, ltb, eqb}
 use lib.ListN.{length, getD, List·getD-eq-default}
 use Rattle.meaning.specs.Tests.{between}
-use Rattle.meaning.specs.Operations.{isCounter, isFlag, codesOf, codeAllowed, valueAllowed, allowed}
+use Rattle.meaning.specs.Operations.{isCounter, isFlag, codesOf, codeAllowed, valueAllowed, allowed, valueLimit, greatestAmount}
 use Rattle.meaning.specs.Questions.{fits}
 use Rattle.meaning.specs.Refusals.{wellAsked}
 use Rattle.meaning.proofs.Tests.{cases}
@@ -89,7 +89,7 @@ module _ (kind code value : ℕ) (counts : Bool) (ec : counts ≡ isCounter kind
     unfolding valueAllowed between
     amount-none h = rw (sym ec ∙ c, lt-leb 1 value h) refl
 
-    pub amount-most : 1 ≤ value → leb value 1000000 ≡ valueAllowed kind code value
+    pub amount-most : 1 ≤ value → leb value greatestAmount ≡ valueAllowed kind code value
     unfolding valueAllowed between
     amount-most h = rw (sym ec ∙ c, le-leb 1 value h) refl
 
@@ -105,7 +105,7 @@ module _ (kind code value : ℕ) (counts : Bool) (ec : counts ≡ isCounter kind
 
       pub value-any : (code ≡ 3 → ⊥) → Fits w32 value → true ≡ valueAllowed kind code value
       unfolding valueAllowed
-      value-any n h = rw (sym ec ∙ c, sym ef ∙ f, ne-eqb code 3 n, lt-ltb value 4294967296 (omega (arith, h))) refl
+      value-any n h = rw (sym ec ∙ c, sym ef ∙ f, ne-eqb code 3 n, lt-ltb value valueLimit (omega (arith, h))) refl
 
 -- both
 module _ (kind code value : ℕ) (r : Bool) (e : r ≡ codeAllowed kind code) where
@@ -150,7 +150,7 @@ module _ (question value : ℕ) where
   module _ (low : 1 ≤ question) (high : question ≤ 5) where
     pub asked-holds : question ≡ 5 → Fits w32 value → true ≡ wellAsked (askedFrom 0 question value)
     unfolding wellAsked between
-    asked-holds q k = rw (q, lt-ltb value 4294967296 (omega (arith, k))) refl
+    asked-holds q k = rw (q, lt-ltb value valueLimit (omega (arith, k))) refl
 
     pub asked-plain : (question ≡ 5 → ⊥) → eqb value 0 ≡ wellAsked (askedFrom 0 question value)
     unfolding wellAsked between

@@ -18,8 +18,6 @@ use table_kinds::REMOVES;
 
 const LEAST_AMOUNT: u32 = 1;
 
-const GREATEST_AMOUNT: u32 = 1000000;
-
 const NO_VALUE: u32 = 0;
 
 // The five questions.
@@ -86,7 +84,7 @@ fn value_allowed(kind: u32, code: u32, value: u32) -> bool
         if value < LEAST_AMOUNT {
             return false;
         }
-        return value <= GREATEST_AMOUNT;
+        return value <= meaning::GREATEST_AMOUNT;
     }
     if is_flag(kind) {
         return value == NO_VALUE;

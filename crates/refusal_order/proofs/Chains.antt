@@ -12,7 +12,7 @@ use lib.ListN.{length, getD}
 use Rattle.meaning.specs.Tests.{every, between, allHold}
 use Rattle.meaning.specs.Order.{Vector, entryLimit, atMost, raised}
 use Rattle.meaning.specs.Operations.{numberOf, allowed}
-use Rattle.meaning.specs.Table.{headerRules, inRange, kindIn}
+use Rattle.meaning.specs.Table.{headerRules, inRange, kindIn, greatestSize, greatestCapacity, mostObjects}
 use Rattle.meaning.specs.Table as table
 use Rattle.meaning.specs.Questions.{Asked, fits}
 use Rattle.meaning.specs.Refusals.{firstOf, wellShaped, declared, operationAllowed, inTime, frameRefusals, issueRefusals, wellAsked, askedRefusals, openingRefusals}
@@ -158,32 +158,32 @@ module _ (h : Header) (kinds : List ℕ) (r : Bool) (e : r ≡ inRange (headerFr
   rules = sym e ∙ t
 
   abbrev size-kept : Bool
-  size-kept = between 1 16 (h .size)
+  size-kept = between 1 greatestSize (h .size)
 
   abbrev own-kept : Bool
   own-kept = ltb (h .own .0) (h .size)
 
   abbrev count-kept : Bool
-  count-kept = between 1 32 (length kinds)
+  count-kept = between 1 mostObjects (length kinds)
 
   abbrev kinds-kept : Bool
   kinds-kept = every (between 1 9) kinds
 
   abbrev capacity-kept : Bool
-  capacity-kept = between 1 512 (h .capacity .0)
+  capacity-kept = between 1 (greatestCapacity (h .size)) (h .capacity .0)
 
-  pub opening-few : (size : ℕ) → size ≡ h .size → size ≤ 16
+  pub opening-few : (size : ℕ) → size ≡ h .size → size ≤ greatestSize
   unfolding headerRules
-  opening-few size q = rw q (between-out 1 16 (h .size) (and-left size-kept (own-kept && (count-kept && (kinds-kept && (capacity-kept && true)))) rules) .1)
+  opening-few size q = rw q (between-out 1 greatestSize (h .size) (and-left size-kept (own-kept && (count-kept && (kinds-kept && (capacity-kept && true)))) rules) .1)
 
-  pub opening-small : h .capacity .0 ≤ 512
+  pub opening-small : h .capacity .0 ≤ greatestCapacity (h .size)
   unfolding headerRules
   opening-small =
       let past-size = and-right size-kept (own-kept && (count-kept && (kinds-kept && (capacity-kept && true)))) rules in
       let past-own = and-right own-kept (count-kept && (kinds-kept && (capacity-kept && true))) past-size in
       let past-count = and-right count-kept (kinds-kept && (capacity-kept && true)) past-own in
       let past-kinds = and-right kinds-kept (capacity-kept && true) past-count in
-      between-out 1 512 (h .capacity .0) (and-left capacity-kept true past-kinds) .1
+      between-out 1 (greatestCapacity (h .size)) (h .capacity .0) (and-left capacity-kept true past-kinds) .1
 
 -- the refusal of an opening
 module _ (h : Header) (kinds : List ℕ) (space : ℕ) (a : Bool) (ea : a ≡ inRange (headerFrom h kinds)) where

@@ -8,6 +8,18 @@ ghost use Rattle.words_layout.specs.Words.{pieces};
 ghost use Rattle.words_layout.specs.Layout.{spaceFor};
 ghost use Rattle.refusal_kind.specs.Asking.{askedFrom};
 ghost use Rattle.refusal_order.specs.Fields.{frameFrom, headerFrom, headerOfKinds, isStranger, localFrom};
+ghost use Rattle.meaning.specs.Table.{greatestSize};
+use refusal_number::EARLY;
+use refusal_number::FALLING;
+use refusal_number::FORBIDDEN;
+use refusal_number::KNOWN;
+use refusal_number::LAST;
+use refusal_number::MISSHAPEN;
+use refusal_number::NONE;
+use refusal_number::STRANGER;
+use refusal_number::UNDECLARED;
+use refusal_number::UNFITTED;
+use refusal_number::UNOPENED;
 use words_tags::RowCount;
 use words_tags::Station;
 
@@ -25,29 +37,6 @@ pub struct Sent {
     pub code: u32,
     pub value: u32,
 }
-
-// The refusal numbers, and what stands for none.
-pub const NONE: u32 = 0;
-
-pub const MISASKED: u32 = 1;
-
-pub const STRANGER: u32 = 2;
-
-pub const UNDECLARED: u32 = 3;
-
-pub const FORBIDDEN: u32 = 4;
-
-pub const KNOWN: u32 = 5;
-
-pub const EARLY: u32 = 6;
-
-pub const FALLING: u32 = 7;
-
-pub const LAST: u32 = 9;
-
-pub const UNFITTED: u32 = 12;
-
-pub const UNOPENED: u32 = 13;
 
 // Whether a sender is no other station of the group: outside of it, or the own one.
 fn is_stranger(sender: Station, size: u32, own: Station) -> bool
@@ -68,7 +57,7 @@ pub fn frame_refusal(
     f: Sent,
     v: &[u32],
 ) -> u32
-    requires { ⌜ (length (now clock) ≡ h .size) × (length (now v) ≡ h .size) × (h .size * h .size ≤ length (now lasts)) × (h .size ≤ 16) ⌝ }
+    requires { ⌜ (length (now clock) ≡ h .size) × (length (now v) ≡ h .size) × (h .size * h .size ≤ length (now lasts)) × (h .size ≤ greatestSize) ⌝ }
     ensures { λ r. ⌜ r ≡ firstOf (frameRefusals (headerFrom h (now (kinds .entry))) (now (clock .entry)) (pieces (h .size) (h .size) (now (lasts .entry))) (frameFrom f (now (v .entry)))) ⌝ }
 {
     let sender = f.sender;
@@ -139,7 +128,7 @@ pub fn question_refusal(kinds: &[u32], object: u32, question: u32, value: u32) -
     let object_declared = refusal_kind::is_declared(kinds, object);
     let fitted = refusal_kind::is_fitted(question, table_kinds::kind_of(kinds, object));
     if !well_asked {
-        return MISASKED;
+        return MISSHAPEN;
     }
     if !object_declared {
         return UNDECLARED;

@@ -18,15 +18,16 @@ use Rattle.words_layout.specs.Words.{pieces}
 use Rattle.words_layout.proofs.Pieces.{length-pieces}
 use Rattle.words_tags.proofs.Pairs.{Passed, at-most-by-pairs, start, pair-fails, pair-holds, done}
 use Rattle.refusal_time.specs.Lasts.{lastOf}
+use Rattle.meaning.specs.Table.{greatestSize}
 
 -- the number of a frame, and the own one
 pub number-known : (v clock : Vector) (sender number last : ℕ) → number ≡ getD v sender 0 → last ≡ getD clock sender 0 → leb number last ≡ leb (getD v sender 0) (getD clock sender 0)
 number-known v clock sender number last n l = rw (n, l) refl
 
-pub number-last : (clock : Vector) (own number : ℕ) → number ≡ getD clock own 0 → eqb number 4294967295 ≡ eqb (suc (getD clock own 0)) entryLimit
-number-last clock own number n = rw (sym n) (cases (eqb number 4294967295)
-    (λ q. let e = eqb-true number 4294967295 q in rw q (sym (eq-eqb (suc number) entryLimit (omega arith))))
-    (λ q. let d = eqb-false number 4294967295 q in rw q (sym (ne-eqb (suc number) entryLimit (λ z. d (omega arith))))))
+pub number-last : (clock : Vector) (own number : ℕ) → number ≡ getD clock own 0 → eqb number (entryLimit - 1) ≡ eqb (suc (getD clock own 0)) entryLimit
+number-last clock own number n = rw (sym n) (cases (eqb number (entryLimit - 1))
+    (λ q. let e = eqb-true number (entryLimit - 1) q in rw q (sym (eq-eqb (suc number) entryLimit (omega arith))))
+    (λ q. let d = eqb-false number (entryLimit - 1) q in rw q (sym (ne-eqb (suc number) entryLimit (λ z. d (omega arith))))))
 
 -- one entry
 module _ (entry known : ℕ) (own : Bool) where
@@ -88,9 +89,9 @@ module _ (v : Vector) (lasts : List ℕ) (sender at : ℕ) (e : at ≡ sender) w
       let l : length (pieces (length v) (length v) lasts) ≤ sender = omega (arith, e, length-pieces (length v) (length v) lasts) in
       rw (List·getD-eq-default (pieces (length v) (length v) lasts) [] l) refl
 
-  module _ (few : length v ≤ 16) (h : at < length v) where
+  module _ (few : length v ≤ greatestSize) (h : at < length v) where
     place-small : at * length v ≤ 256
-    place-small = let l : at ≤ 16 = omega arith in mul-le-mul l few
+    place-small = let l : at ≤ greatestSize = omega arith in mul-le-mul l few
 
     pub last-place-fits : Fits w64 (at * length v)
     last-place-fits = omega (arith, place-small)

@@ -6,9 +6,8 @@ ghost use lib.Dec.{eqb, leb};
 ghost use lib.ListN.{length, getD};
 ghost use Rattle.meaning.specs.Order.{atMost, entryLimit, raised};
 ghost use Rattle.refusal_time.specs.Lasts.{lastOf};
+ghost use Rattle.meaning.specs.Table.{greatestSize};
 use words_tags::Station;
-
-const GREATEST_NUMBER: u32 = 4294967295;
 
 // Whether a frame's number is at most D's entry of its sender: that operation was accepted before.
 pub fn is_known(v: &[u32], clock: &[u32], sender: Station) -> bool
@@ -21,7 +20,7 @@ pub fn is_known(v: &[u32], clock: &[u32], sender: Station) -> bool
 pub fn is_last(clock: &[u32], own: Station) -> bool
     ensures { λ r. ⌜ r ≡ eqb (suc (getD (now (clock .entry)) (own .0) 0)) entryLimit ⌝ }
 {
-    words_tags::number_at(clock, own).0 == GREATEST_NUMBER
+    words_tags::number_at(clock, own).0 == meaning::GREATEST_NUMBER
 }
 
 // Whether an entry of a vector is at most D's, or at most one more where it is the sender's own.
@@ -56,7 +55,7 @@ pub fn in_time(v: &[u32], clock: &[u32], sender: Station) -> bool
 
 // Whether no entry lies below the sender's last vector; a sender outside of the group has none.
 pub fn keeps_rising(lasts: &[u32], v: &[u32], sender: Station) -> bool
-    requires { ⌜ (length (now v) * length (now v) ≤ length (now lasts)) × (length (now v) ≤ 16) ⌝ }
+    requires { ⌜ (length (now v) * length (now v) ≤ length (now lasts)) × (length (now v) ≤ greatestSize) ⌝ }
     ensures { λ r. ⌜ r ≡ atMost (lastOf (length (now (v .entry))) (now (lasts .entry)) (sender .0)) (now (v .entry)) ⌝ }
 {
     let at = words_tags::wide(sender.0);

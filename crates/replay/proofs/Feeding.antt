@@ -10,13 +10,15 @@ use Rattle.line_hex.specs.Keeping.{kept}
 use Rattle.line_decode.specs.Feeding.{fed, heldFed, heldTaken, taken}
 use Rattle.line_decode.proofs.Feeding as keeping
 use Rattle.calls.specs.Answers.{longestAnswer}
-use Rattle.program_output.specs.Gathering.{HasRoom}
+use Rattle.program_output.specs.Gathering.{HasRoom, pendingRoom}
 use Rattle.replay.specs.declared.Playing.{Playing}
 use Rattle.replay.specs.declared.Kept.{Kept}
 use Rattle.replay.specs.declared.More.{More}
 use Rattle.replay.specs.declared.More.the-variants as more
 use Rattle.replay.specs.Ready.{Ready, StillReady}
 use Rattle.replay.specs.Replaying.{replayed}
+use Rattle.words_layout.specs.Layout.{mostWords}
+use Rattle.line_read.specs.Types.{lineRoom}
 
 -- the ways through take
 module _ (space : List ℕ) (have b n : ℕ) (s : List ℕ) (e : (n, s) ≡ kept space have b) (before : Playing) (words : List ℕ) (count : ℕ) (pending : List ℕ) where
@@ -105,12 +107,12 @@ module _ (words₀ line₀ pending₀ : List ℕ) where
 
 -- what main keeps
 pub record Holding (words line pending : List ℕ) (have count : ℕ) : Type 0 where
-  pub words-long : length words ≡ 12151
-  pub line-long : length line ≡ 523
-  pub pending-long : length pending ≡ 65536
+  pub words-long : length words ≡ mostWords
+  pub line-long : length line ≡ lineRoom
+  pub pending-long : length pending ≡ pendingRoom
   pub ready : Ready have count line pending
 
-pub holding-start : (words line pending : List ℕ) (have count : ℕ) → have ≡ 0 → count ≡ 0 → length words ≡ 12151 → length line ≡ 523 → length pending ≡ 65536 → Holding words line pending have count
+pub holding-start : (words line pending : List ℕ) (have count : ℕ) → have ≡ 0 → count ≡ 0 → length words ≡ mostWords → length line ≡ lineRoom → length pending ≡ pendingRoom → Holding words line pending have count
 holding-start words line pending have count z y w l p =
     record { words-long = w; line-long = l; pending-long = p; ready = record { within = omega arith; short = omega arith; has-room = record { within = omega arith; room = omega arith } } }
 

@@ -9,9 +9,9 @@ ghost use Rattle.replay.specs.Replaying.{begins, ended, isTitle, lastEnd
 ghost use Rattle.replay.specs.Ready.{Ready, StillReady};
 use form_judge::Judged;
 use program_output::LINE;
-use program_output::MOST_WORDS;
 use program_output::PENDING;
 use program_output::Waiting;
+use words_layout::MOST_WORDS;
 
 // A title has these two ahead of it, and behind them this one where it starts a form.
 const DASH: u8 = b'-';

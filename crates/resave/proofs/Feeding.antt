@@ -6,7 +6,6 @@ use native.Mathlib.Omega.{arith}
 use lib.ListN.{getD, length, take}
 use Rattle.line_hex.specs.Hex.{lf}
 use Rattle.line_hex.specs.Keeping.{kept}
-use Rattle.table_ranges.specs.Spaces.{mostWords}
 use Rattle.line_decode.specs.Feeding.{fed, Going, heldFed, heldTaken, LastPiece, taken, WholeLines}
 use Rattle.line_decode.proofs.Feeding as keeping
 use Rattle.form_judge.specs.declared.Judged.{Judged}
@@ -18,6 +17,8 @@ use Rattle.resave.specs.declared.Kept.{Kept}
 use Rattle.resave.specs.declared.More.{More}
 use Rattle.resave.specs.declared.More.the-variants as more
 use Rattle.resave.specs.Ending.{AfterRead, FormEnd, formEnded, Read}
+use Rattle.words_layout.specs.Layout.{mostWords}
+use Rattle.line_read.specs.Types.{lineRoom}
 
 -- the ways through take
 module _ (space : List ℕ) (have b n : ℕ) (s : List ℕ) (e : (n, s) ≡ kept space have b) (known : Judged) (words : List ℕ) where
@@ -90,7 +91,7 @@ pub record Reading (line₀ words₀ line words : List ℕ) (have : ℕ) (known 
   pub read : Read line₀ 0 (judged.Open, words₀) line have (known, words)
 
 module _ (line₀ words₀ : List ℕ) where
-  pub reading-start : length words₀ ≡ mostWords → length line₀ ≡ 523 → Reading line₀ words₀ line₀ words₀ 0 judged.Open
+  pub reading-start : length words₀ ≡ mostWords → length line₀ ≡ lineRoom → Reading line₀ words₀ line₀ words₀ 0 judged.Open
   unfolding fed heldFed
   reading-start w l = record { words-long = w; line-long = refl; going = record { line = []; keeps = keeping.keeps-none line₀ l }; read = record { input = []; kept-is = refl; known-is = refl } }
 

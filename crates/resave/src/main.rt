@@ -5,15 +5,16 @@ ghost use lib.ListN.{length};
 ghost use Rattle.program_output.specs.Gathering.{HasRoom};
 ghost use Rattle.form_judge.specs.Judging.{judgedBy};
 ghost use Rattle.line_decode.specs.Feeding.{fed, Going, heldFed, heldTaken, LastPiece, taken, WholeLines};
-ghost use Rattle.table_ranges.specs.Spaces.{mostWords};
 ghost use Rattle.resave.specs.Ending.{AfterRead, FormEnd, Read};
 ghost use Rattle.form_judge.specs.declared.Judged.the-variants.{Open};
+ghost use Rattle.words_layout.specs.Layout.{mostWords};
+ghost use Rattle.line_read.specs.Types.{lineRoom};
 use form_judge::Judged;
 use libc::STDIN_FILENO;
 use program_output::LINE;
-use program_output::MOST_WORDS;
 use program_output::PENDING;
 use program_output::Waiting;
+use words_layout::MOST_WORDS;
 
 // What is kept from one byte of input to the next: so many characters of a line, and what is known of the form.
 struct Kept {
@@ -82,7 +83,7 @@ fn some(space: &mut [u32], line: &mut [u8], from: Kept) -> More
 
 // The whole input, a read at a time.
 fn read(space: &mut [u32], line: &mut [u8]) -> Kept
-    requires { ⌜ (length (now space) ≡ mostWords) × (length (now line) ≡ 523) ⌝ }
+    requires { ⌜ (length (now space) ≡ mostWords) × (length (now line) ≡ lineRoom) ⌝ }
     ensures { λ r. ⌜ Going (now (line .exit)) (r .have)
         × Read (now (line .entry)) 0 (Open, now (space .entry)) (now (line .exit)) (r .have) (r .known, now (space .exit)) ⌝ }
 {

@@ -16,6 +16,7 @@ use Rattle.words_layout.specs.Words.{pieces, padded}
 use Rattle.words_layout.proofs.Pieces.{Wide, wide-pieces}
 use Rattle.words_layout.proofs.Whole.{zeros-drop}
 use Rattle.settling.specs.Below.{isBelow, othersBelow}
+use Rattle.meaning.specs.Table.{greatestSize}
 
 -- the others' vectors from station k on
 abbrev restFrom : ℕ → ℕ → List Vector → List Vector
@@ -134,25 +135,25 @@ low-length n clock [] e w = e
 low-length n clock (v ∷ others) e w = least-of-length n v others (w .0) (w .1)
 
 -- the array that begins with Low
-module _ (clock lasts low : List ℕ) (own : ℕ) (few : length clock ≤ 16) (room : length clock * length clock ≤ length lasts) (laid : low ≡ paste (replicate 16 0) 0 clock (length clock)) where
+module _ (clock lasts low : List ℕ) (own : ℕ) (few : length clock ≤ greatestSize) (room : length clock * length clock ≤ length lasts) (laid : low ≡ paste (replicate greatestSize 0) 0 clock (length clock)) where
   abbrev size : ℕ
   size = length clock
 
-  clock-laid : low ≡ clock ++ replicate (16 - size) 0
-  clock-laid = let z : 0 + length clock ≡ size = omega arith in laid ∙ rw (take-all size clock (omega arith), z) (ap (λ (l : List ℕ). clock ++ l) (ap (drop size) (sym (append-nil (replicate 16 0))) ∙ zeros-drop 16 size [] few ∙ append-nil (replicate (16 - size) 0)))
+  clock-laid : low ≡ clock ++ replicate (greatestSize - size) 0
+  clock-laid = let z : 0 + length clock ≡ size = omega arith in laid ∙ rw (take-all size clock (omega arith), z) (ap (λ (l : List ℕ). clock ++ l) (ap (drop size) (sym (append-nil (replicate greatestSize 0))) ∙ zeros-drop greatestSize size [] few ∙ append-nil (replicate (greatestSize - size) 0)))
 
   front : take (size - 0) low ≡ clock
-  front = ap (take (size - 0)) clock-laid ∙ take-at clock (replicate (16 - size) 0) (size - 0) (omega arith)
+  front = ap (take (size - 0)) clock-laid ∙ take-at clock (replicate (greatestSize - size) 0) (size - 0) (omega arith)
 
   pub low-asks : length (take (size - 0) low) * length (take (size - 0) low) ≤ length lasts
   low-asks = rw front room
 
   pub low-is : othersBelow clock own (pieces size size lasts) ≡ true → (x : List ℕ) → length x ≡ length (take (size - 0) low) → x ≡ leastOf (take (size - 0) low) (othersOf own (pieces (length (take (size - 0) low)) (length (take (size - 0) low)) lasts)) →
-      x ++ drop (size - 0) low ≡ padded 16 (lowOf clock (othersOf own (pieces size size lasts)))
+      x ++ drop (size - 0) low ≡ padded greatestSize (lowOf clock (othersOf own (pieces size size lasts)))
   unfolding othersBelow
   low-is below x g f =
       let others = othersOf own (pieces size size lasts) in
       let e : x ≡ leastOf clock others = rw front at f in
       let l : x ≡ lowOf clock others = e ∙ low-by-clock clock others (wide-others size own (pieces size size lasts) (wide-pieces size size lasts room)) below in
-      let rest : drop (size - 0) low ≡ replicate (16 - size) 0 = ap (drop (size - 0)) clock-laid ∙ drop-at clock (replicate (16 - size) 0) (size - 0) (omega arith) in
-      ap (λ (m : List ℕ). x ++ m) rest ∙ ap (λ (k : ℕ). x ++ replicate (16 - k) 0) (sym (g ∙ ap length front)) ∙ ap (padded 16) l
+      let rest : drop (size - 0) low ≡ replicate (greatestSize - size) 0 = ap (drop (size - 0)) clock-laid ∙ drop-at clock (replicate (greatestSize - size) 0) (size - 0) (omega arith) in
+      ap (λ (m : List ℕ). x ++ m) rest ∙ ap (λ (k : ℕ). x ++ replicate (greatestSize - k) 0) (sym (g ∙ ap length front)) ∙ ap (padded greatestSize) l

@@ -10,13 +10,13 @@ use lib.Seq.{paste, take-all, take-at, length-take-le}
 use Rattle.meaning.specs.Tests.{every}
 use Rattle.meaning.specs.Order.{Vector, othersOf, lowOf}
 use Rattle.meaning.specs.Rows.{Row, settledRow}
-use Rattle.meaning.specs.Table.{Table, kindIn, low}
+use Rattle.meaning.specs.Table.{Table, kindIn, low, greatestSize, mostObjects}
 use Rattle.meaning.specs.Calls.{rowsSettled, steps, withRows}
 use Rattle.meaning.proofs.Tests.{cases, and-both}
 use Rattle.meaning.proofs.TableFacts.{facts, last-below}
 use Rattle.meaning.proofs.TableRules.{kept-by-settling, settling-shortens}
 use Rattle.words_layout.specs.Words.{pieces, flat, padded}
-use Rattle.words_layout.specs.Layout.{rowOf, rowWords, rowsIn, tableOf, rewritten, sizeIn, ownIn, countIn, rowsAt}
+use Rattle.words_layout.specs.Layout.{rowOf, rowWords, rowsIn, tableOf, rewritten, sizeIn, ownIn, countIn, rowsAt, clockAt, totalsAt}
 use Rattle.words_layout.proofs.Pieces.{Each, map-back, length-pieces}
 use Rattle.words_layout.proofs.RowWords.{Shaped, row-read}
 use Rattle.words_layout.proofs.Whole.{fit, put-fewer, each-spelt, wide-rows}
@@ -66,19 +66,19 @@ module _ (s : List ℕ) (K : Checked s) where
   n = sizeIn s
 
   -- the kinds
-  pub kinds-laid : (kinds : List ℕ) → kinds ≡ paste (replicate 32 0) 0 (take (39 - 7) (drop 7 s)) (length (take (39 - 7) (drop 7 s))) → kinds ≡ take 32 (drop 7 s)
+  pub kinds-laid : (kinds : List ℕ) → kinds ≡ paste (replicate mostObjects 0) 0 (take (totalsAt - 7) (drop 7 s)) (length (take (totalsAt - 7) (drop 7 s))) → kinds ≡ take mostObjects (drop 7 s)
   kinds-laid kinds e =
-      let l : length (take 32 (drop 7 s)) ≡ 32 = length-take-le 32 (drop 7 s) (simp length-drop (omega (arith, K .long))) in
-      e ∙ rw (l, take-all 32 (take 32 (drop 7 s)) (omega (arith, l))) (append-nil (take 32 (drop 7 s)))
+      let l : length (take mostObjects (drop 7 s)) ≡ mostObjects = length-take-le mostObjects (drop 7 s) (simp length-drop (omega (arith, K .long))) in
+      e ∙ rw (l, take-all mostObjects (take mostObjects (drop 7 s)) (omega (arith, l))) (append-nil (take mostObjects (drop 7 s)))
 
   -- Low
-  clock-is : take (103 + n - 103) (drop 103 s) ≡ t .clock
+  clock-is : take (clockAt + n - clockAt) (drop clockAt s) ≡ t .clock
   unfolding tableOf
-  clock-is = let e : 103 + n - 103 ≡ n = omega arith in rw e refl
+  clock-is = let e : clockAt + n - clockAt ≡ n = omega arith in rw e refl
 
-  last-is : pieces n n (take (length s - (103 + n)) (drop (103 + n) s)) ≡ t .last
+  last-is : pieces n n (take (length s - (clockAt + n)) (drop (clockAt + n) s)) ≡ t .last
   unfolding tableOf
-  last-is = rw (all-of s (103 + n)) refl
+  last-is = rw (all-of s (clockAt + n)) refl
 
   size-is : t .header .size ≡ n
   unfolding tableOf
@@ -92,13 +92,13 @@ module _ (s : List ℕ) (K : Checked s) where
   unfolding othersBelow isBelow
   below = every-other (isBelow (t .clock)) (ownIn s) (t .last) (λ k h d. last-below t (K .by-rules) k (rw (facts t (K .by-rules) .last-length) at h) (λ e. d (e ∙ own-is)))
 
-  pub low-asks : (length (take (103 + n - 103) (drop 103 s)) ≤ 16) × (length (take (103 + n - 103) (drop 103 s)) * length (take (103 + n - 103) (drop 103 s)) ≤ length (take (length s - (103 + n)) (drop (103 + n) s)))
-  low-asks = rw (clock-is, fit s (K .laid) .clock-long, size-is, all-of s (103 + n), length-drop (103 + n) s) (K .few, omega (arith, K .room))
+  pub low-asks : (length (take (clockAt + n - clockAt) (drop clockAt s)) ≤ greatestSize) × (length (take (clockAt + n - clockAt) (drop clockAt s)) * length (take (clockAt + n - clockAt) (drop clockAt s)) ≤ length (take (length s - (clockAt + n)) (drop (clockAt + n) s)))
+  low-asks = rw (clock-is, fit s (K .laid) .clock-long, size-is, all-of s (clockAt + n), length-drop (clockAt + n) s) (K .few, omega (arith, K .room))
 
-  pub low-below-asks : othersBelow (take (103 + n - 103) (drop 103 s)) (ownIn s) (pieces (length (take (103 + n - 103) (drop 103 s))) (length (take (103 + n - 103) (drop 103 s))) (take (length s - (103 + n)) (drop (103 + n) s))) ≡ true
+  pub low-below-asks : othersBelow (take (clockAt + n - clockAt) (drop clockAt s)) (ownIn s) (pieces (length (take (clockAt + n - clockAt) (drop clockAt s))) (length (take (clockAt + n - clockAt) (drop clockAt s))) (take (length s - (clockAt + n)) (drop (clockAt + n) s))) ≡ true
   low-below-asks = rw (clock-is, fit s (K .laid) .clock-long, size-is, last-is) below
 
-  pub low-is : (r : List ℕ) → r ≡ padded 16 (lowOf (take (103 + n - 103) (drop 103 s)) (othersOf (ownIn s) (pieces (length (take (103 + n - 103) (drop 103 s))) (length (take (103 + n - 103) (drop 103 s))) (take (length s - (103 + n)) (drop (103 + n) s))))) → r ≡ padded 16 (low t)
+  pub low-is : (r : List ℕ) → r ≡ padded greatestSize (lowOf (take (clockAt + n - clockAt) (drop clockAt s)) (othersOf (ownIn s) (pieces (length (take (clockAt + n - clockAt) (drop clockAt s))) (length (take (clockAt + n - clockAt) (drop clockAt s))) (take (length s - (clockAt + n)) (drop (clockAt + n) s))))) → r ≡ padded greatestSize (low t)
   unfolding low
   low-is r e = e ∙ rw (clock-is, fit s (K .laid) .clock-long, size-is, last-is, own-is) refl
 
@@ -108,15 +108,15 @@ module _ (s : List ℕ) (K : Checked s) where
   low-long = low-length n (t .clock) (othersOf (t .header .own) (t .last)) (fit s (K .laid) .clock-long) (wide-others n (t .header .own) (t .last) (fit s (K .laid) .last-wide))
 
   abbrev base : ℕ
-  base = 103 + n + n * n
+  base = clockAt + n + n * n
 
   abbrev part : List ℕ
   part = take (length s - base) (drop base s)
 
   -- the rows may be passed
-  kind-same : (o : ℕ) → kindIn (t .header) o ≡ kindAt (take 32 (drop 7 s)) o
+  kind-same : (o : ℕ) → kindIn (t .header) o ≡ kindAt (take mostObjects (drop 7 s)) o
   unfolding kindIn kindAt
-  kind-same o = sym (rw (kinds-are s (K .laid)) (padded-at 32 (t .header .kinds) o))
+  kind-same o = sym (rw (kinds-are s (K .laid)) (padded-at mostObjects (t .header .kinds) o))
     where
       zeros-at : (k i : ℕ) → _≡_ {A = ℕ} (getD (replicate k 0) i 0) 0
       zeros-at zero i = refl
@@ -131,26 +131,26 @@ module _ (s : List ℕ) (K : Checked s) where
       padded-at : (m : ℕ) (l : List ℕ) (i : ℕ) → getD (padded m l) i 0 ≡ getD l i 0
       padded-at m l i = behind l (m - length l) i
 
-  pub rows-held : Held (take 32 (drop 7 s)) n (pieces (7 + n) (countIn s) part)
+  pub rows-held : Held (take mostObjects (drop 7 s)) n (pieces (7 + n) (countIn s) part)
   unfolding tableOf
   rows-held = rw (all-of s base) (record { table = t; kinds-are = kind-same; by-rules = K .by-rules; spelt = map-back rowOf (rowWords n) (rowsIn s) (each-spelt s (K .laid)) })
 
   -- Low is lent without the zeros
-  pub low-lent : (low₁ : List ℕ) → low₁ ≡ padded 16 (low t) → take (n - 0) low₁ ≡ low t
-  low-lent low₁ e = let z : n - 0 ≡ n = omega arith in ap (take (n - 0)) e ∙ take-at (low t) (replicate (16 - length (low t)) 0) (n - 0) (low-long ∙ sym z)
+  pub low-lent : (low₁ : List ℕ) → low₁ ≡ padded greatestSize (low t) → take (n - 0) low₁ ≡ low t
+  low-lent low₁ e = let z : n - 0 ≡ n = omega arith in ap (take (n - 0)) e ∙ take-at (low t) (replicate (greatestSize - length (low t)) 0) (n - 0) (low-long ∙ sym z)
 
-  pub pass-asks : (low₁ : List ℕ) → low₁ ≡ padded 16 (low t) → (length (take (n - 0) low₁) ≡ n) × (countIn s * (7 + n) ≤ length part)
+  pub pass-asks : (low₁ : List ℕ) → low₁ ≡ padded greatestSize (low t) → (length (take (n - 0) low₁) ≡ n) × (countIn s * (7 + n) ≤ length part)
   pass-asks low₁ e = (ap length (low-lent low₁ e) ∙ low-long, rw (all-of s base, length-drop base s) (omega (arith, K .room)))
 
   -- what the pass leaves is what settling leaves
-  same-kinds : kindAt (take 32 (drop 7 s)) ≡ kindIn (t .header)
+  same-kinds : kindAt (take mostObjects (drop 7 s)) ≡ kindIn (t .header)
   same-kinds = fun-ext (λ o. sym (kind-same o))
 
-  rows-same : (limit : ℕ) → rowsThen (take 32 (drop 7 s)) (low t) limit (map rowOf (pieces (7 + n) (countIn s) part)) ≡ rowsSettled t limit
+  rows-same : (limit : ℕ) → rowsThen (take mostObjects (drop 7 s)) (low t) limit (map rowOf (pieces (7 + n) (countIn s) part)) ≡ rowsSettled t limit
   unfolding rowsThen rowsSettled tableOf
   rows-same limit = rw (same-kinds, all-of s base) refl
 
-  steps-same : (limit : ℕ) → stepsThen (take 32 (drop 7 s)) (low t) limit (map rowOf (pieces (7 + n) (countIn s) part)) ≡ steps t limit
+  steps-same : (limit : ℕ) → stepsThen (take mostObjects (drop 7 s)) (low t) limit (map rowOf (pieces (7 + n) (countIn s) part)) ≡ steps t limit
   unfolding stepsThen steps tableOf
   steps-same limit = rw (same-kinds, all-of s base) refl
 
@@ -164,8 +164,8 @@ module _ (s : List ℕ) (K : Checked s) where
   unfolding tableOf
   rows-many = length-map (rowsIn s) rowOf ∙ length-pieces (7 + n) (countIn s) (drop (rowsAt n) s)
 
-  pub settled-words : (limit : ℕ) (low₁ x : List ℕ) (left : ℕ) → low₁ ≡ padded 16 (low t) → left ≡ length (rowsThen (take 32 (drop 7 s)) (take (n - 0) low₁) limit (map rowOf (pieces (7 + n) (countIn s) part))) →
-      x ≡ padded (countIn s * (7 + n)) (flat (map (rowWords n) (rowsThen (take 32 (drop 7 s)) (take (n - 0) low₁) limit (map rowOf (pieces (7 + n) (countIn s) part))))) ++ drop (countIn s * (7 + n)) part →
+  pub settled-words : (limit : ℕ) (low₁ x : List ℕ) (left : ℕ) → low₁ ≡ padded greatestSize (low t) → left ≡ length (rowsThen (take mostObjects (drop 7 s)) (take (n - 0) low₁) limit (map rowOf (pieces (7 + n) (countIn s) part))) →
+      x ≡ padded (countIn s * (7 + n)) (flat (map (rowWords n) (rowsThen (take mostObjects (drop 7 s)) (take (n - 0) low₁) limit (map rowOf (pieces (7 + n) (countIn s) part))))) ++ drop (countIn s * (7 + n)) part →
       set (take base s ++ (x ++ drop (length s - base) (drop base s))) 5 left ≡ rewritten s (withRows t (rowsSettled t limit))
   settled-words limit low₁ x left e f g =
       let rows = rowsSettled t limit in
@@ -176,26 +176,26 @@ module _ (s : List ℕ) (K : Checked s) where
       rw (nothing-behind s base, append-nil)
       (put-fewer s (K .laid) rs x left (rows-spelt n rows (shaped limit)) (wide-rows n rows (short n rows (shaped limit))) few y k ∙ ap (λ (l : List Row). rewritten s (withRows t l)) (rows-read n rows (shaped limit)))
 
-  pub settled-steps : (limit : ℕ) (low₁ : List ℕ) (taken : ℕ) → low₁ ≡ padded 16 (low t) → taken ≡ stepsThen (take 32 (drop 7 s)) (take (n - 0) low₁) limit (map rowOf (pieces (7 + n) (countIn s) part)) → taken ≡ steps t limit
+  pub settled-steps : (limit : ℕ) (low₁ : List ℕ) (taken : ℕ) → low₁ ≡ padded greatestSize (low t) → taken ≡ stepsThen (take mostObjects (drop 7 s)) (take (n - 0) low₁) limit (map rowOf (pieces (7 + n) (countIn s) part)) → taken ≡ steps t limit
   settled-steps limit low₁ taken e f = f ∙ rw (low-lent low₁ e) (steps-same limit)
 
 -- the same with the numbers of the head in hand
 module _ (s : List ℕ) (K : Checked s) (m : ℕ) (e : m ≡ sizeIn s) where
-  pub clock-few : length (take (103 + m - 103) (drop 103 s)) ≤ 16
+  pub clock-few : length (take (clockAt + m - clockAt) (drop clockAt s)) ≤ greatestSize
   clock-few = rw e (low-asks s K .0)
 
-  pub lasts-room : length (take (103 + m - 103) (drop 103 s)) * length (take (103 + m - 103) (drop 103 s)) ≤ length (take (length s - (103 + m)) (drop (103 + m) s))
+  pub lasts-room : length (take (clockAt + m - clockAt) (drop clockAt s)) * length (take (clockAt + m - clockAt) (drop clockAt s)) ≤ length (take (length s - (clockAt + m)) (drop (clockAt + m) s))
   lasts-room = rw e (low-asks s K .1)
 
-  pub clock-below : othersBelow (take (103 + m - 103) (drop 103 s)) (ownIn s) (pieces (length (take (103 + m - 103) (drop 103 s))) (length (take (103 + m - 103) (drop 103 s))) (take (length s - (103 + m)) (drop (103 + m) s))) ≡ true
+  pub clock-below : othersBelow (take (clockAt + m - clockAt) (drop clockAt s)) (ownIn s) (pieces (length (take (clockAt + m - clockAt) (drop clockAt s))) (length (take (clockAt + m - clockAt) (drop clockAt s))) (take (length s - (clockAt + m)) (drop (clockAt + m) s))) ≡ true
   clock-below = rw e (low-below-asks s K)
 
-  pub low-given : (r : List ℕ) → r ≡ padded 16 (lowOf (take (103 + m - 103) (drop 103 s)) (othersOf (ownIn s) (pieces (length (take (103 + m - 103) (drop 103 s))) (length (take (103 + m - 103) (drop 103 s))) (take (length s - (103 + m)) (drop (103 + m) s))))) → r ≡ padded 16 (low (tableOf s))
+  pub low-given : (r : List ℕ) → r ≡ padded greatestSize (lowOf (take (clockAt + m - clockAt) (drop clockAt s)) (othersOf (ownIn s) (pieces (length (take (clockAt + m - clockAt) (drop clockAt s))) (length (take (clockAt + m - clockAt) (drop clockAt s))) (take (length s - (clockAt + m)) (drop (clockAt + m) s))))) → r ≡ padded greatestSize (low (tableOf s))
   low-given r f = low-is s K r (rw e at f)
 
-module _ (s : List ℕ) (K : Checked s) (m c : ℕ) (O : Opened s m c) (kinds low₁ : List ℕ) (k : kinds ≡ take 32 (drop 7 s)) (l : low₁ ≡ padded 16 (low (tableOf s))) where
+module _ (s : List ℕ) (K : Checked s) (m c : ℕ) (O : Opened s m c) (kinds low₁ : List ℕ) (k : kinds ≡ take mostObjects (drop 7 s)) (l : low₁ ≡ padded greatestSize (low (tableOf s))) where
   abbrev rest : List ℕ
-  rest = take (length s - (103 + m + m * m)) (drop (103 + m + m * m) s)
+  rest = take (length s - (clockAt + m + m * m)) (drop (clockAt + m + m * m) s)
 
   pub lent-long : length (take (m - 0) low₁) ≡ m
   lent-long = rw (O .size-is) (pass-asks s K low₁ l .0)
@@ -211,7 +211,7 @@ module _ (s : List ℕ) (K : Checked s) (m c : ℕ) (O : Opened s m c) (kinds lo
 
   pub call-words : (limit left : ℕ) (x : List ℕ) → left ≡ length (rowsThen kinds (take (m - 0) low₁) limit (map rowOf (pieces (7 + m) c rest))) →
       x ≡ padded (c * (7 + m)) (flat (map (rowWords m) (rowsThen kinds (take (m - 0) low₁) limit (map rowOf (pieces (7 + m) c rest))))) ++ drop (c * (7 + m)) rest →
-      set (take (103 + m + m * m) s ++ (x ++ drop (length s - (103 + m + m * m)) (drop (103 + m + m * m) s))) 5 left ≡ rewritten s (withRows (tableOf s) (rowsSettled (tableOf s) limit))
+      set (take (clockAt + m + m * m) s ++ (x ++ drop (length s - (clockAt + m + m * m)) (drop (clockAt + m + m * m) s))) 5 left ≡ rewritten s (withRows (tableOf s) (rowsSettled (tableOf s) limit))
   call-words limit left x f g = rw (O .size-is) (settled-words s K limit low₁ x left l (rw (k, O .size-is, O .count-is) at f) (rw (k, O .size-is, O .count-is) at g))
 
 -- the numbers of the head are those that the words hold

@@ -5,10 +5,6 @@ use Prim.Native.Nat.{ℕ}
 use Rattle.meaning.specs.Tests.{every}
 use Rattle.meaning.specs.Order.{Vector, atMost, othersOf}
 
--- "A group has N stations, 1 to 16".
-abbrev pub mostStations : ℕ
-mostStations = 16
-
 -- A vector is at or below the clock.
 unfoldable pub isBelow : Vector → Vector → Bool
 isBelow clock vector = atMost vector clock

@@ -6,17 +6,14 @@ ghost use Prim.Native.Nat.{_+_, _*_, _<_, _≤_};
 ghost use lib.ListN.{length, take, drop};
 ghost use Rattle.meaning.specs.Order.{leastOf, lowOf, othersOf};
 ghost use Rattle.words_layout.specs.Words.{padded, pieces};
-ghost use Rattle.settling.specs.Below.{mostStations, othersBelow};
-ghost use Rattle.meaning.specs.Table.{low};
+ghost use Rattle.settling.specs.Below.{othersBelow};
+ghost use Rattle.meaning.specs.Table.{low, greatestSize, mostObjects};
 ghost use Rattle.meaning.specs.Calls.{rowsSettled, steps, withRows};
 ghost use Rattle.words_layout.specs.Layout.{kindsAt, rewritten, sizeIn, tableOf};
 ghost use Rattle.table_change.specs.Changes.{Opened};
 ghost use Rattle.table_rules.specs.Checked.{Checked};
 use words_tags::RowCount;
 use words_tags::Station;
-
-// A group has at most so many stations.
-pub const MOST_STATIONS: usize = 16;
 
 // Lessens a vector, where it stands, by that of every station but the own one.
 fn lessen_by_others(low: &mut [u32], lasts: &[u32], own: Station)
@@ -40,27 +37,24 @@ fn lessen_by_others(low: &mut [u32], lasts: &[u32], own: Station)
 }
 
 // Low, entry by entry, with zeros behind it: every L[k] is at or below D, so that the least of D and the others' is the others'.
-pub fn low_of(clock: &[u32], lasts: &[u32], own: Station) -> [u32; MOST_STATIONS]
-    requires { ⌜ (length (now clock) ≤ mostStations) × (length (now clock) * length (now clock) ≤ length (now lasts)) ⌝ }
+pub fn low_of(clock: &[u32], lasts: &[u32], own: Station) -> [u32; meaning::MOST_STATIONS]
+    requires { ⌜ (length (now clock) ≤ greatestSize) × (length (now clock) * length (now clock) ≤ length (now lasts)) ⌝ }
     requires { ⌜ othersBelow (now clock) (own .0) (pieces (length (now clock)) (length (now clock)) (now lasts)) ≡ true ⌝ }
-    ensures { λ r. ⌜ r ≡ padded mostStations (lowOf (now (clock .entry)) (othersOf (own .0) (pieces (length (now (clock .entry))) (length (now (clock .entry))) (now (lasts .entry))))) ⌝ }
+    ensures { λ r. ⌜ r ≡ padded greatestSize (lowOf (now (clock .entry)) (othersOf (own .0) (pieces (length (now (clock .entry))) (length (now (clock .entry))) (now (lasts .entry))))) ⌝ }
 {
-    let mut low = [0u32; MOST_STATIONS];
+    let mut low = [0u32; meaning::MOST_STATIONS];
     words_moves::put(&mut low, 0, clock);
     let end = clock.len();
     lessen_by_others(&mut low[0..end], lasts, own);
     low
 }
 
-// A table has at most so many objects.
-const MOST_OBJECTS: usize = 32;
-
 // The words of the kinds, copied so that the rows can be lent beside them.
-fn kinds_of(s: &[u32]) -> [u32; MOST_OBJECTS]
+fn kinds_of(s: &[u32]) -> [u32; meaning::MOST_OBJECTS]
     requires { ⌜ Checked (now s) ⌝ }
-    ensures { λ r. ⌜ r ≡ take 32 (drop kindsAt (now (s .entry))) ⌝ }
+    ensures { λ r. ⌜ r ≡ take mostObjects (drop kindsAt (now (s .entry))) ⌝ }
 {
-    let mut kinds = [0u32; MOST_OBJECTS];
+    let mut kinds = [0u32; meaning::MOST_OBJECTS];
     words_moves::put(
         &mut kinds,
         0,
@@ -70,9 +64,9 @@ fn kinds_of(s: &[u32]) -> [u32; MOST_OBJECTS]
 }
 
 // Low of a table, with zeros behind it.
-fn low_in(s: &[u32], size: usize) -> [u32; MOST_STATIONS]
-    requires { ⌜ Checked (now s) × (size ≡ sizeIn (now s)) × (size ≤ 16) ⌝ }
-    ensures { λ r. ⌜ r ≡ padded 16 (low (tableOf (now (s .entry)))) ⌝ }
+fn low_in(s: &[u32], size: usize) -> [u32; meaning::MOST_STATIONS]
+    requires { ⌜ Checked (now s) × (size ≡ sizeIn (now s)) × (size ≤ greatestSize) ⌝ }
+    ensures { λ r. ⌜ r ≡ padded greatestSize (low (tableOf (now (s .entry)))) ⌝ }
 {
     let end = words_layout::CLOCK_AT + size;
     low_of(

@@ -9,7 +9,7 @@ use lib.Seq.{paste}
 use mir.Val.{Fits}
 use mir.Syntax.{w64}
 use Rattle.meaning.specs.Rows.{Row, settledRow}
-use Rattle.words_layout.specs.Words.{pieces, flat, padded}
+use Rattle.words_layout.specs.Words.{pieces, flat, padded, wordLimit}
 use Rattle.words_layout.specs.Layout.{rowOf, rowWords}
 use Rattle.table_drop.proofs.Dropping.{next-size}
 use Rattle.settling_step.specs.declared.Step.{Step}
@@ -19,23 +19,24 @@ use Rattle.settling_step.specs.Held.{kindAt, Held}
 use Rattle.settling_step.proofs.OneStep.{row-spelt}
 use Rattle.settling_pass.specs.Passing.{rowsThen, stepsThen, closedUp}
 use Rattle.settling_pass.proofs.Passing.{Passing, passing-start, passing-keep, passing-settle, passing-drop, both-more, passing-both, held-ahead, here-room, passing-steps, passing-count, passing-done}
+use Rattle.meaning.specs.Table.{greatestSize}
 
 -- Beside the pass: the width, and bounds that a sum of places asks for.
 pub record Loop (kinds low : List ℕ) (limit : ℕ) (s₀ : List ℕ) (n w count : ℕ) (s : List ℕ) (from to more left taken : ℕ) : Type 0 where
   pub wide : w ≡ 7 + n
-  pub few : n ≤ 16
+  pub few : n ≤ greatestSize
   pub within : from ≤ length s
   pub below : to ≤ from
   pub fewer : left + more ≤ count
   pub steps : taken + more ≤ count
-  pub word : count < 4294967296
+  pub word : count < wordLimit
   pub pass : Passing kinds low limit s₀ n count s from to more left taken
 
-looped : (kinds low : List ℕ) (limit : ℕ) (s₀ : List ℕ) (n w count : ℕ) (s : List ℕ) (from to more left taken : ℕ) → w ≡ 7 + n → n ≤ 16 → count < 4294967296 → taken + more ≤ count → Passing kinds low limit s₀ n count s from to more left taken → Loop kinds low limit s₀ n w count s from to more left taken
+looped : (kinds low : List ℕ) (limit : ℕ) (s₀ : List ℕ) (n w count : ℕ) (s : List ℕ) (from to more left taken : ℕ) → w ≡ 7 + n → n ≤ greatestSize → count < wordLimit → taken + more ≤ count → Passing kinds low limit s₀ n count s from to more left taken → Loop kinds low limit s₀ n w count s from to more left taken
 looped kinds low limit s₀ n w count s from to more left taken e f g k P =
     record { wide = e; few = f; within = omega (arith, P .place .size, P .place .room); below = P .below; fewer = P .fewer; steps = k; word = g; pass = P }
 
-pub loop-start : (kinds low : List ℕ) (limit : ℕ) (s : List ℕ) (n w count more : ℕ) → w ≡ 7 + n → n ≤ 16 → count * (7 + n) ≤ length s → Held kinds n (pieces (7 + n) count s) → more ≡ count → more < 4294967296 → Loop kinds low limit s n w more s 0 0 more 0 0
+pub loop-start : (kinds low : List ℕ) (limit : ℕ) (s : List ℕ) (n w count more : ℕ) → w ≡ 7 + n → n ≤ greatestSize → count * (7 + n) ≤ length s → Held kinds n (pieces (7 + n) count s) → more ≡ count → more < wordLimit → Loop kinds low limit s n w more s 0 0 more 0 0
 loop-start kinds low limit s n w count more e f h H g k = looped kinds low limit s n w more s 0 0 more 0 0 e f k (omega arith) (rw g (passing-start kinds low limit s n count h H))
 
 module _ (kinds low : List ℕ) (limit : ℕ) (s₀ : List ℕ) (n w count : ℕ) (s : List ℕ) (from to more left taken : ℕ) (L : Loop kinds low limit s₀ n w count s from to more left taken) (some : 0 < more) where

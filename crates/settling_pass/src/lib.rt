@@ -8,6 +8,7 @@ ghost use Rattle.words_layout.specs.Words.{flat, padded, pieces};
 ghost use Rattle.words_layout.specs.Layout.{rowOf, rowWidth, rowWords};
 ghost use Rattle.settling_step.specs.Held.{Held, rowsFrom};
 ghost use Rattle.settling_pass.specs.Passing.{closedUp, placeLimit, rowsThen, stepsThen};
+ghost use Rattle.meaning.specs.Table.{greatestSize};
 use settling_step::Step;
 use words_tags::RowCount;
 
@@ -19,7 +20,7 @@ pub struct Passed {
 
 // Settles a row where it stands: its tag is wiped.
 pub fn settle_row(rows: &mut [u32], at: usize, size: usize)
-    requires { ⌜ (at + rowWidth size ≤ length (now rows)) × (size ≤ 16) × (rowWords size (rowOf (take (rowWidth size) (drop at (now rows)))) ≡ take (rowWidth size) (drop at (now rows))) ⌝ }
+    requires { ⌜ (at + rowWidth size ≤ length (now rows)) × (size ≤ greatestSize) × (rowWords size (rowOf (take (rowWidth size) (drop at (now rows)))) ≡ take (rowWidth size) (drop at (now rows))) ⌝ }
     ensures { λ _. ⌜ now (rows .exit) ≡ take at (now (rows .entry)) ++ (rowWords size (settledRow (rowOf (take (rowWidth size) (drop at (now (rows .entry)))) .operation)) ++ drop (at + rowWidth size) (now (rows .entry))) ⌝ }
 {
     let start = at + words_layout::UNSETTLED_AT;
@@ -52,7 +53,7 @@ pub fn pass_rows(
     low: &[u32],
     limit: RowCount,
 ) -> Passed
-    requires { ⌜ (length (now low) ≡ size) × (size ≤ 16) × (count .0 * rowWidth size ≤ length (now rows)) × Held (now kinds) size (pieces (rowWidth size) (count .0) (now rows)) ⌝ }
+    requires { ⌜ (length (now low) ≡ size) × (size ≤ greatestSize) × (count .0 * rowWidth size ≤ length (now rows)) × Held (now kinds) size (pieces (rowWidth size) (count .0) (now rows)) ⌝ }
     ensures { λ r. ⌜ (r .left .0 ≡ length (rowsThen (now (kinds .entry)) (now (low .entry)) (limit .0) (rowsFrom size (count .0) (now (rows .entry))))) × (r .taken .0 ≡ stepsThen (now (kinds .entry)) (now (low .entry)) (limit .0) (rowsFrom size (count .0) (now (rows .entry)))) × (now (rows .exit) ≡ padded (count .0 * rowWidth size) (flat (map (rowWords size) (rowsThen (now (kinds .entry)) (now (low .entry)) (limit .0) (rowsFrom size (count .0) (now (rows .entry)))))) ++ drop (count .0 * rowWidth size) (now (rows .entry))) ⌝ }
 {
     let width = words_layout::VECTOR_AT + size;

@@ -9,6 +9,7 @@ ghost use Rattle.words_layout.specs.Layout.{rowOf, rowWidth};
 ghost use Rattle.table_insert.specs.Placing.{keyWords};
 ghost use Rattle.settling_step.specs.Stepping.{addDecided, beside, besideLast, besideNext, decided, nobody, removeDecided, stepFor};
 ghost use Rattle.settling_step.specs.Held.{Held, kindAt, rowsFrom};
+ghost use Rattle.meaning.specs.Table.{greatestSize};
 use words_tags::RowCount;
 
 // What stands beside a row: whether it is of the same value, whether it adds, and whether it is settled; all false where nothing stands.
@@ -148,7 +149,7 @@ pub fn step_for(
     kinds: &[u32],
     low: &[u32],
 ) -> Step
-    requires { ⌜ (length (now low) ≡ size) × (size ≤ 16) × (left .0 * rowWidth size ≤ at) × (at + rowWidth size ≤ length (now rows)) × (at + rowWidth size + more .0 * rowWidth size ≤ length (now rows)) ⌝ }
+    requires { ⌜ (length (now low) ≡ size) × (size ≤ greatestSize) × (left .0 * rowWidth size ≤ at) × (at + rowWidth size ≤ length (now rows)) × (at + rowWidth size + more .0 * rowWidth size ≤ length (now rows)) ⌝ }
     requires { ⌜ Held (now kinds) size (pieces (rowWidth size) (left .0) (now rows) ++ (take (rowWidth size) (drop at (now rows)) ∷ pieces (rowWidth size) (more .0) (drop (at + rowWidth size) (now rows)))) ⌝ }
     ensures { λ r. ⌜ r ≡ stepFor (kindAt (now (kinds .entry))) (now (low .entry)) (rowsFrom size (left .0) (now (rows .entry))) (rowOf (take (rowWidth size) (drop at (now (rows .entry))))) (rowsFrom size (more .0) (drop (at + rowWidth size) (now (rows .entry)))) ⌝ }
 {

@@ -6,14 +6,15 @@ use native.Mathlib.Omega.{arith}
 use lib.ListN.{length, getD, take}
 use Rattle.line_hex.specs.Hex.{lf}
 use Rattle.line_hex.specs.Keeping.{kept}
-use Rattle.table_ranges.specs.Spaces.{mostWords}
 use Rattle.line_decode.specs.Feeding.{fed, Going, heldFed, heldTaken, LastPiece, taken, WholeLines}
 use Rattle.line_decode.proofs.Feeding as keeping
-use Rattle.program_output.specs.Gathering.{HasRoom, replied}
+use Rattle.program_output.specs.Gathering.{HasRoom, replied, pendingRoom}
 use Rattle.program_output.proofs.Alike.{replied-alike}
 use Rattle.station.specs.declared.More.{More}
 use Rattle.station.specs.declared.More.the-variants as more
 use Rattle.station.specs.Ending.{StillGoing}
+use Rattle.words_layout.specs.Layout.{mostWords}
+use Rattle.line_read.specs.Types.{lineRoom}
 
 -- the ways through take
 module _ (space : List ℕ) (have b n : ℕ) (s : List ℕ) (e : (n, s) ≡ kept space have b) (words : List ℕ) (count : ℕ) (pending : List ℕ) where
@@ -81,12 +82,12 @@ module _ (space : List ℕ) (have : ℕ) (words pending : List ℕ) where
 -- what main keeps: the lengths of the spaces, and that input goes on
 pub record Holding (words space pending : List ℕ) (have : ℕ) : Type 0 where
   pub words-long : length words ≡ mostWords
-  pub line-long : length space ≡ 523
-  pub pending-long : length pending ≡ 65536
+  pub line-long : length space ≡ lineRoom
+  pub pending-long : length pending ≡ pendingRoom
   pub going : Going space have
   pub has-room : HasRoom 0 pending
 
-pub holding-start : (words space pending : List ℕ) → length words ≡ mostWords → length space ≡ 523 → length pending ≡ 65536 → Holding words space pending 0
+pub holding-start : (words space pending : List ℕ) → length words ≡ mostWords → length space ≡ lineRoom → length pending ≡ pendingRoom → Holding words space pending 0
 holding-start words space pending v l u = record { words-long = v; line-long = l; pending-long = u; going = record { line = []; keeps = keeping.keeps-none space l }; has-room = record { within = omega arith; room = omega arith } }
 
 pub holding-turn : (words space pending x s p : List ℕ) (have n : ℕ) (r : More) → Holding words space pending have → StillGoing have s r → r ≡ more.Yes n → length x ≡ length words → length s ≡ length space → length p ≡ length pending → Holding x s p n

@@ -2,15 +2,15 @@
 ghost use mathlib.Core.Path.{_≡_};
 ghost use Prim.Native.Nat.{_≤_};
 ghost use lib.ListN.{length};
-ghost use Rattle.table_ranges.specs.Spaces.{mostWords};
 ghost use Rattle.program_output.specs.Gathering.{HasRoom, replied};
 ghost use Rattle.line_decode.specs.Feeding.{fed, Going, heldFed, heldTaken, LastPiece, taken, WholeLines};
 ghost use Rattle.station.specs.Ending.{StillGoing};
+ghost use Rattle.words_layout.specs.Layout.{mostWords};
 use libc::STDIN_FILENO;
 use program_output::LINE;
-use program_output::MOST_WORDS;
 use program_output::PENDING;
 use program_output::Waiting;
+use words_layout::MOST_WORDS;
 
 // What is kept from one byte of input to the next: so many characters of a line, and the answers that wait.
 struct Kept {

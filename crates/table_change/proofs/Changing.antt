@@ -12,17 +12,18 @@ use Rattle.meaning.specs.Order.{Vector}
 use Rattle.meaning.specs.Rows.{Row}
 use Rattle.meaning.specs.Calls.{withRows}
 use Rattle.words_layout.specs.Words.{flat, padded}
-use Rattle.words_layout.specs.Layout.{Laid, rowOf, tableOf, rewritten, sizeIn, countIn, rowsIn}
+use Rattle.words_layout.specs.Layout.{Laid, rowOf, tableOf, rewritten, sizeIn, countIn, rowsIn, clockAt, rowWidth}
 use Rattle.words_layout.proofs.Pieces.{those-map}
 use Rattle.words_layout.proofs.Whole.{area, put-filtered}
 use Rattle.table_drop.specs.Arriving.{operationOf, goes, rowGoes, leftBy, staying}
 use Rattle.table_drop.specs.declared.Arrival.{Arrival}
 use Rattle.table_change.specs.Changes.{Opened, rowsLeft}
+use Rattle.meaning.specs.Table.{greatestSize, greatestCapacity}
 
 pub opened : (s : List ℕ) (n count : ℕ) → Laid s → n ≡ sizeIn s → count ≡ countIn s → Opened s n count
 opened s n count T en ec =
-    let few : n ≤ 16 = omega (arith, T .few) in
-    let less : count ≤ 512 = omega (arith, T .within, T .small) in
+    let few : n ≤ greatestSize = omega (arith, T .few) in
+    let less : count ≤ greatestCapacity n = omega (arith, T .within, T .small) in
     record {
       laid = T;
       size-is = en;
@@ -30,7 +31,7 @@ opened s n count T en ec =
       few = few;
       less = less;
       square = mul-le-mul few few;
-      area = mul-le-mul less (let q : 7 + n ≤ 23 = omega arith in q);
+      area = mul-le-mul less (let q : 7 + n ≤ rowWidth greatestSize = omega arith in q);
       room = rw (en, ec) (omega (arith, T .room, area s T));
     }
 
@@ -44,7 +45,7 @@ nothing-behind s a = drop-of-length-le (drop a s) {i = length s - a} (simp lengt
 -- rows dropped
 module _ (s : List ℕ) (n count : ℕ) (a : Arrival) (v : Vector) (O : Opened s n count) where
   abbrev base : ℕ
-  base = 103 + n + n * n
+  base = clockAt + n + n * n
 
   abbrev part : List ℕ
   part = take (length s - base) (drop base s)

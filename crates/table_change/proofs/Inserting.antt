@@ -10,7 +10,7 @@ use lib.Seq.{drop-drop}
 use Rattle.meaning.specs.Rows.{Row, insertRow}
 use Rattle.meaning.specs.Calls.{withRows}
 use Rattle.words_layout.specs.Words.{pieces, flat, padded}
-use Rattle.words_layout.specs.Layout.{Laid, rowOf, rowWords, tableOf, rewritten, beyond, sizeIn, capacityIn, countIn, rowsIn, rowsAt}
+use Rattle.words_layout.specs.Layout.{Laid, rowOf, rowWords, tableOf, rewritten, beyond, sizeIn, capacityIn, countIn, rowsIn, rowsAt, clockAt}
 use Rattle.words_layout.proofs.Pieces.{length-pieces, length-flat}
 use Rattle.words_layout.proofs.Whole.{rows-wide, each-spelt, after-rows, put-rows, zeros-drop}
 use Rattle.table_insert.specs.Placing.{inserted}
@@ -20,7 +20,7 @@ use Rattle.table_change.proofs.Changing.{all-of, nothing-behind}
 
 module _ (s key v : List ℕ) (n count : ℕ) (O : Opened s n count) (less : count < capacityIn s) (seven : length key ≡ 7) (long : length v ≡ n) (spelt : rowWords n (rowOf (key ++ v)) ≡ key ++ v) where
   abbrev base : ℕ
-  base = 103 + n + n * n
+  base = clockAt + n + n * n
 
   abbrev part : List ℕ
   part = take (length s - base) (drop base s)
@@ -72,8 +72,8 @@ module _ (s key v : List ℕ) (T : Laid s) (less : countIn s < capacityIn s) (se
 
 -- with the numbers in hand
 pub put-in : (s key v : List ℕ) (n count : ℕ) → Opened s n count → count < capacityIn s → length key ≡ 7 → length v ≡ n → rowWords n (rowOf (key ++ v)) ≡ key ++ v → (x : List ℕ) →
-    x ≡ flat (inserted key v (pieces (7 + n) count (take (length s - (103 + n + n * n)) (drop (103 + n + n * n) s)))) ++ drop (count * (7 + n) + (7 + n)) (take (length s - (103 + n + n * n)) (drop (103 + n + n * n) s)) →
-    set (take (103 + n + n * n) s ++ (x ++ drop (length s - (103 + n + n * n)) (drop (103 + n + n * n) s))) 5 (count + 1) ≡ rewritten s (withRows (tableOf s) (insertRow (rowOf (key ++ v)) (tableOf s .rows)))
+    x ≡ flat (inserted key v (pieces (7 + n) count (take (length s - (clockAt + n + n * n)) (drop (clockAt + n + n * n) s)))) ++ drop (count * (7 + n) + (7 + n)) (take (length s - (clockAt + n + n * n)) (drop (clockAt + n + n * n) s)) →
+    set (take (clockAt + n + n * n) s ++ (x ++ drop (length s - (clockAt + n + n * n)) (drop (clockAt + n + n * n) s))) 5 (count + 1) ≡ rewritten s (withRows (tableOf s) (insertRow (rowOf (key ++ v)) (tableOf s .rows)))
 put-in s key v n count O less seven long spelt x f =
-    rw (nothing-behind s (103 + n + n * n), append-nil, O .size-is, O .count-is)
-    (put-own s key v (O .laid) (rw (O .count-is) at less) seven (long ∙ O .size-is) (rw (O .size-is) at spelt) x (rw (all-of s (103 + n + n * n), O .size-is, O .count-is) at f))
+    rw (nothing-behind s (clockAt + n + n * n), append-nil, O .size-is, O .count-is)
+    (put-own s key v (O .laid) (rw (O .count-is) at less) seven (long ∙ O .size-is) (rw (O .size-is) at spelt) x (rw (all-of s (clockAt + n + n * n), O .size-is, O .count-is) at f))

@@ -8,10 +8,11 @@ use lib.IntN.{ℤ, pos, _+ℤ_}
 use lib.ListN.{length, getD, take, drop, set, length-drop, length-set}
 use lib.Seq.{getD-drop}
 use Rattle.words_layout.specs.Words.{pieces}
-use Rattle.words_layout.specs.Layout.{tableOf, rewritten, objectsIn, totalWords, totalOfWords, withTotals}
+use Rattle.words_layout.specs.Layout.{tableOf, rewritten, objectsIn, totalWords, totalOfWords, withTotals, totalsAt}
 use Rattle.words_layout.proofs.Changing.{put-total}
 use Rattle.table_change.specs.TotalChange.{change}
 use Rattle.table_change.specs.Changes.{Opened, totalsChanged}
+use Rattle.meaning.specs.Table.{mostObjects}
 
 -- two words set one after the other are a part put in
 pub two-set : (s : List ℕ) (a x y : ℕ) → a + 2 ≤ length s → set (set s a x) (a + 1) y ≡ take a s ++ ((x ∷ y ∷ []) ++ drop 2 (drop a s))
@@ -32,25 +33,25 @@ total-at (suc k) (p ∷ q ∷ s) (suc o) h r =
     rw (e, f) (total-at k s o (omega arith) (omega arith))
 
 module _ (s : List ℕ) (n count o : ℕ) (O : Opened s n count) (h : o < objectsIn s) where
-  few : o < 32
+  few : o < mostObjects
   few = omega (arith, O .laid .objects)
 
-  pub total-room : 39 + o * 2 + 1 < length s
+  pub total-room : totalsAt + o * 2 + 1 < length s
   total-room = omega (arith, few, O .room)
 
-  pub total-room-set : (x : ℕ) → 39 + o * 2 + 1 < length (set s (39 + o * 2) x)
-  total-room-set x = rw (length-set s (39 + o * 2) x) total-room
+  pub total-room-set : (x : ℕ) → totalsAt + o * 2 + 1 < length (set s (totalsAt + o * 2) x)
+  total-room-set x = rw (length-set s (totalsAt + o * 2) x) total-room
 
-  pub old-total : totalOfWords (getD s (39 + o * 2) 0 ∷ getD s (39 + o * 2 + 1) 0 ∷ []) ≡ getD (tableOf s .totals) o (pos 0)
+  pub old-total : totalOfWords (getD s (totalsAt + o * 2) 0 ∷ getD s (totalsAt + o * 2 + 1) 0 ∷ []) ≡ getD (tableOf s .totals) o (pos 0)
   unfolding tableOf
   old-total =
-      let r : objectsIn s * 2 ≤ length (drop 39 s) = simp length-drop (omega (arith, O .laid .objects, O .laid .room)) in
-      let e : 39 + o * 2 + 1 ≡ 39 + (o * 2 + 1) = omega arith in
-      sym (total-at (objectsIn s) (drop 39 s) o h r ∙ rw (getD-drop 39 s (o * 2) 0, getD-drop 39 s (o * 2 + 1) 0, ← e) refl)
+      let r : objectsIn s * 2 ≤ length (drop totalsAt s) = simp length-drop (omega (arith, O .laid .objects, O .laid .room)) in
+      let e : totalsAt + o * 2 + 1 ≡ totalsAt + (o * 2 + 1) = omega arith in
+      sym (total-at (objectsIn s) (drop totalsAt s) o h r ∙ rw (getD-drop totalsAt s (o * 2) 0, getD-drop totalsAt s (o * 2 + 1) 0, ← e) refl)
 
-  pub total-put : (b : Bool) (amount x y : ℕ) → x ∷ y ∷ [] ≡ totalWords (totalOfWords (getD s (39 + o * 2) 0 ∷ getD s (39 + o * 2 + 1) 0 ∷ []) +ℤ change b amount) → set (set s (39 + o * 2) x) (39 + o * 2 + 1) y ≡ rewritten s (withTotals (tableOf s) (totalsChanged o amount b (tableOf s)))
+  pub total-put : (b : Bool) (amount x y : ℕ) → x ∷ y ∷ [] ≡ totalWords (totalOfWords (getD s (totalsAt + o * 2) 0 ∷ getD s (totalsAt + o * 2 + 1) 0 ∷ []) +ℤ change b amount) → set (set s (totalsAt + o * 2) x) (totalsAt + o * 2 + 1) y ≡ rewritten s (withTotals (tableOf s) (totalsChanged o amount b (tableOf s)))
   unfolding totalsChanged
   total-put b amount x y e =
-      two-set s (39 + o * 2) x y (omega (arith, total-room))
-      ∙ ap (λ (l : List ℕ). take (39 + o * 2) s ++ (l ++ drop 2 (drop (39 + o * 2) s))) (e ∙ ap (λ (z : ℤ). totalWords (z +ℤ change b amount)) old-total)
+      two-set s (totalsAt + o * 2) x y (omega (arith, total-room))
+      ∙ ap (λ (l : List ℕ). take (totalsAt + o * 2) s ++ (l ++ drop 2 (drop (totalsAt + o * 2) s))) (e ∙ ap (λ (z : ℤ). totalWords (z +ℤ change b amount)) old-total)
       ∙ put-total s (O .laid) o (getD (tableOf s .totals) o (pos 0) +ℤ change b amount) h

@@ -8,7 +8,7 @@ use borrow.Author.Tests.{ltb-true, ltb-false}
 use lib.Dec.{ltb}
 use lib.IntN.{ℤ, pos, negsuc, negℤ, _+ℤ_, +ℤ-idr}
 use Rattle.meaning.proofs.Tests.{cases}
-use Rattle.words_layout.specs.Words.{complement, ofTwoWords, inTwoWords}
+use Rattle.words_layout.specs.Words.{complement, ofTwoWords, inTwoWords, wordLimit}
 use Rattle.words_layout.specs.Layout.{totalOfWords, totalWords}
 use Rattle.words_layout.proofs.RowWords.{high-of, low-of}
 use Rattle.words_layout.proofs.Spelling.{code-read}
@@ -27,17 +27,17 @@ lowered-code (pos n) (suc x) h = cases (ltb n (suc x)) (λ p. rw p (omega (arith
 lowered-code (negsuc n) (suc x) h = omega arith
 
 -- two words that are a number's words
-two-words : (a b c : ℕ) → a < 4294967296 → b < 4294967296 → a * 4294967296 + b ≡ c → a ∷ b ∷ [] ≡ inTwoWords c
+two-words : (a b c : ℕ) → a < wordLimit → b < wordLimit → a * wordLimit + b ≡ c → a ∷ b ∷ [] ≡ inTwoWords c
 two-words a b c ha hb e = rw (sym e, high-of a b hb, low-of a b hb) refl
 
-module _ (a b h l x : ℕ) (fa : a < 4294967296) (fb : b < 4294967296) (fh : h < 4294967296) (fl : l < 4294967296) (fx : x < 4294967296) where
+module _ (a b h l x : ℕ) (fa : a < wordLimit) (fb : b < wordLimit) (fh : h < wordLimit) (fl : l < wordLimit) (fx : x < wordLimit) where
   small : ofTwoWords h l < 18446744073709551616
   small = omega arith
 
-  pub increased-is : a * 4294967296 + b ≡ (h * 4294967296 + l + x) % 18446744073709551616 → a ∷ b ∷ [] ≡ totalWords (totalOfWords (h ∷ l ∷ []) +ℤ pos x)
+  pub increased-is : a * wordLimit + b ≡ (h * wordLimit + l + x) % 18446744073709551616 → a ∷ b ∷ [] ≡ totalWords (totalOfWords (h ∷ l ∷ []) +ℤ pos x)
   increased-is e = two-words a b (complement (totalOfWords (h ∷ l ∷ []) +ℤ pos x)) fa fb (e ∙ sym (raised-code (totalOfWords (h ∷ l ∷ [])) x ∙ rw (code-read (ofTwoWords h l) small) refl))
 
-  pub decreased-is : a * 4294967296 + b ≡ (h * 4294967296 + l + 18446744073709551616 - x) % 18446744073709551616 → a ∷ b ∷ [] ≡ totalWords (totalOfWords (h ∷ l ∷ []) +ℤ negℤ (pos x))
+  pub decreased-is : a * wordLimit + b ≡ (h * wordLimit + l + 18446744073709551616 - x) % 18446744073709551616 → a ∷ b ∷ [] ≡ totalWords (totalOfWords (h ∷ l ∷ []) +ℤ negℤ (pos x))
   decreased-is e = two-words a b (complement (totalOfWords (h ∷ l ∷ []) +ℤ negℤ (pos x))) fa fb (e ∙ sym (lowered-code (totalOfWords (h ∷ l ∷ [])) x (omega arith) ∙ rw (code-read (ofTwoWords h l) small) refl))
 
 pub change-up : (words : List ℕ) (z : ℤ) (b : Bool) (x : ℕ) → b ≡ true → words ≡ totalWords (z +ℤ pos x) → words ≡ totalWords (z +ℤ change b x)

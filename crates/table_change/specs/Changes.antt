@@ -8,8 +8,8 @@ use lib.ListN.{length, getD, set}
 use Rattle.meaning.specs.Tests.{those}
 use Rattle.meaning.specs.Order.{Vector, entryLimit}
 use Rattle.meaning.specs.Rows.{Row}
-use Rattle.meaning.specs.Table.{Table}
-use Rattle.words_layout.specs.Layout.{Laid, rowsAt, rowWidth, sizeIn, countIn}
+use Rattle.meaning.specs.Table.{Table, greatestSize, greatestCapacity}
+use Rattle.words_layout.specs.Layout.{Laid, rowsAt, rowWidth, sizeIn, countIn, mostRowWords}
 use Rattle.table_change.specs.TotalChange.{change}
 use Rattle.table_drop.specs.Arriving.{operationOf, goes}
 use Rattle.table_drop.specs.declared.Arrival.{Arrival}
@@ -19,10 +19,10 @@ pub record Opened (words : List ℕ) (size count : ℕ) : Type 0 where
   pub laid : Laid words
   pub size-is : size ≡ sizeIn words
   pub count-is : count ≡ countIn words
-  pub few : size ≤ 16
-  pub less : count ≤ 512
+  pub few : size ≤ greatestSize
+  pub less : count ≤ greatestCapacity size
   pub square : size * size ≤ 256
-  pub area : count * rowWidth size ≤ 11776
+  pub area : count * rowWidth size ≤ mostRowWords
   pub room : rowsAt size + count * rowWidth size ≤ length words
 
 -- The rows that stay when an operation arrives.

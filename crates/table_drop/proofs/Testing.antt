@@ -16,13 +16,13 @@ use Rattle.meaning.specs.Meaning.{on}
 use Rattle.meaning.specs.Rows.{Row}
 use Rattle.meaning.specs.Arrival.{concerns, rowBefore, takenBy, sameValue}
 use Rattle.meaning.proofs.Tests.{cases, iff}
-use Rattle.words_layout.specs.Words.{ofTwoWords}
+use Rattle.words_layout.specs.Words.{ofTwoWords, wordLimit}
 use Rattle.words_layout.specs.Layout.{rowOf}
 use Rattle.table_drop.specs.declared.Arrival.{Arrival}
 use Rattle.table_drop.specs.Arriving.{operationOf, concernsValue, isKept, goes}
 
 -- a value is compared by its words
-module _ (high low rh rl : ℕ) (a : low < 4294967296) (b : rl < 4294967296) where
+module _ (high low rh rl : ℕ) (a : low < wordLimit) (b : rl < wordLimit) where
   value-other : (high ≡ rh → ⊥) → eqb (ofTwoWords high low) (ofTwoWords rh rl) ≡ false
   value-other h = ne-eqb (ofTwoWords high low) (ofTwoWords rh rl) (λ e. h (omega arith))
 
@@ -36,7 +36,7 @@ module _ (a : Arrival) (high low : ℕ) where
   pub concerns-clear : a .code ≡ 3 → true ≡ concernsValue a high low
   concerns-clear e = cases (eqb (a .kind) 7) (λ p. rw p refl) (λ p. rw (p, eq-eqb (a .code) 3 e) refl)
 
-  module _ (k : a .kind ≡ 7 → ⊥) (c : a .code ≡ 3 → ⊥) (fa : a .low < 4294967296) (fb : low < 4294967296) where
+  module _ (k : a .kind ≡ 7 → ⊥) (c : a .code ≡ 3 → ⊥) (fa : a .low < wordLimit) (fb : low < wordLimit) where
     pub concerns-other : (a .high ≡ high → ⊥) → false ≡ concernsValue a high low
     concerns-other h = rw (ne-eqb (a .kind) 7 k, ne-eqb (a .code) 3 c, value-other (a .high) (a .low) high low fa fb h) refl
 
@@ -49,8 +49,8 @@ module _ (row v : List ℕ) (a : Arrival) where
   unfolding sameValue on
   same-other-object h = rw (ne-eqb (getD row 0 0) (a .object) h) refl
 
-  module _ (o : getD row 0 0 ≡ a .object) (fa : a .low < 4294967296) (known : (i : ℕ) → Fits w32 (getD row i 0)) where
-    fb : getD row 2 0 < 4294967296
+  module _ (o : getD row 0 0 ≡ a .object) (fa : a .low < wordLimit) (known : (i : ℕ) → Fits w32 (getD row i 0)) where
+    fb : getD row 2 0 < wordLimit
     fb = omega (arith, known 2)
 
     pub same-other-high : (getD row 1 0 ≡ a .high → ⊥) → false ≡ sameValue (operationOf a v) (rowOf row)

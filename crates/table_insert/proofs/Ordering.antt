@@ -13,14 +13,15 @@ use Rattle.meaning.proofs.Tests.{cases, iff}
 use Rattle.words_layout.specs.Layout.{rowWords, rowOf}
 use Rattle.words_layout.proofs.Pieces.{Each, Wide}
 use Rattle.table_insert.specs.Placing.{inserted}
+use Rattle.words_layout.specs.Words.{wordLimit}
 
 above : (h k : ℕ) → k ≤ h → (h ≡ k → ⊥) → k < h
 above h k a b = cases (ltb k h) (λ p. ltb-true k h p) (λ p. absurd (b (omega (arith, ltb-false k h p))))
 
 -- a number is compared by its high word, then by its low one
-two-words : (v w : ℕ) (r : Bool) → (ltb (v / 4294967296) (w / 4294967296) || (eqb (v / 4294967296) (w / 4294967296) && (ltb (v % 4294967296) (w % 4294967296) || (eqb (v % 4294967296) (w % 4294967296) && r)))) ≡ (ltb v w || (eqb v w && r))
+two-words : (v w : ℕ) (r : Bool) → (ltb (v / wordLimit) (w / wordLimit) || (eqb (v / wordLimit) (w / wordLimit) && (ltb (v % wordLimit) (w % wordLimit) || (eqb (v % wordLimit) (w % wordLimit) && r)))) ≡ (ltb v w || (eqb v w && r))
 two-words v w r =
-    let h = v / 4294967296 in let k = w / 4294967296 in let l = v % 4294967296 in let m = w % 4294967296 in
+    let h = v / wordLimit in let k = w / wordLimit in let l = v % wordLimit in let m = w % wordLimit in
     cases (ltb h k) (λ p. rw (p, lt-ltb v w (omega (arith, ltb-true h k p))) refl)
     (λ p. cases (eqb h k)
     (λ q. cases (ltb l m)

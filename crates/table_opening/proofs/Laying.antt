@@ -10,10 +10,10 @@ use mir.Syntax.{w32}
 use lib.IntN.{pos}
 use lib.ListN.{length, getD, take, drop, set, replicate, length-replicate, replicate-append-replicate}
 use lib.Seq.{paste, take-all, take-at, drop-at, drop-drop}
-use Rattle.meaning.specs.Table.{Header, inRange, zeros, opened}
+use Rattle.meaning.specs.Table.{Header, inRange, zeros, opened, greatestSize, greatestCapacity, mostObjects}
 use Rattle.meaning.proofs.TableFacts.{HeaderFacts, header-facts}
 use Rattle.words_layout.specs.Words.{complement, flat}
-use Rattle.words_layout.specs.Layout.{wordsOf, totalsWords, spaceFor, tableMark}
+use Rattle.words_layout.specs.Layout.{wordsOf, totalsWords, spaceFor, tableMark, clockAt, totalsWidth}
 use Rattle.words_layout.proofs.Reading.{in-a-row}
 use Rattle.words_moves.proofs.Moving.{put-turn as put-one}
 use Rattle.table_ranges.specs.Headers.{headerOf}
@@ -38,7 +38,7 @@ zeros-drop zero (suc k) x h = absurd (omega arith)
 zeros-drop (suc m) (suc k) x h = let e : suc m - suc k ≡ m - k = omega arith in rw e (zeros-drop m k x (omega arith))
 
 -- a fresh table in words
-pub fresh-words : (header : Header) (x : List ℕ) → length (header .kinds) ≤ 32 →
+pub fresh-words : (header : Header) (x : List ℕ) → length (header .kinds) ≤ mostObjects →
     wordsOf (opened header) ++ x ≡ tableMark ∷ header .size ∷ header .own ∷ header .capacity ∷ length (header .kinds) ∷ 0 ∷ 0 ∷ (header .kinds ++ (replicate (spaceFor (header .size) (header .capacity) - 7 - length (header .kinds)) 0 ++ x))
 unfolding wordsOf opened zeros
 fresh-words header x few =
@@ -47,12 +47,12 @@ fresh-words header x few =
     let kinds = header .kinds in
     let w = header .capacity * (7 + n) in
     let long : length (replicate {A = ℕ} (c * 2) 0) ≡ c * 2 = length-replicate (c * 2) 0 in
-    let rest : replicate (32 - c) 0 ++ (replicate (c * 2) 0 ++ (replicate (64 - c * 2) 0 ++ (replicate n 0 ++ (replicate (n * n) 0 ++ (replicate (w - 0) 0 ++ x))))) ≡ replicate (103 + n + n * n + w - 7 - c) 0 ++ x =
-    rw (zeros-join (n * n) (w - 0) x, zeros-join n (n * n + (w - 0)) x, zeros-join (64 - c * 2) (n + (n * n + (w - 0))) x, zeros-join (c * 2) (64 - c * 2 + (n + (n * n + (w - 0)))) x, zeros-join (32 - c) (c * 2 + (64 - c * 2 + (n + (n * n + (w - 0))))) x)
-    (let m : 32 - c + (c * 2 + (64 - c * 2 + (n + (n * n + (w - 0))))) ≡ 103 + n + n * n + w - 7 - c = omega arith in rw m refl) in
+    let rest : replicate (mostObjects - c) 0 ++ (replicate (c * 2) 0 ++ (replicate (totalsWidth - c * 2) 0 ++ (replicate n 0 ++ (replicate (n * n) 0 ++ (replicate (w - 0) 0 ++ x))))) ≡ replicate (clockAt + n + n * n + w - 7 - c) 0 ++ x =
+    rw (zeros-join (n * n) (w - 0) x, zeros-join n (n * n + (w - 0)) x, zeros-join (totalsWidth - c * 2) (n + (n * n + (w - 0))) x, zeros-join (c * 2) (totalsWidth - c * 2 + (n + (n * n + (w - 0)))) x, zeros-join (mostObjects - c) (c * 2 + (totalsWidth - c * 2 + (n + (n * n + (w - 0))))) x)
+    (let m : mostObjects - c + (c * 2 + (totalsWidth - c * 2 + (n + (n * n + (w - 0))))) ≡ clockAt + n + n * n + w - 7 - c = omega arith in rw m refl) in
     rw (totals-zero c, long, flat-zeros n n)
-    (in-a-row (tableMark ∷ n ∷ header .own ∷ header .capacity ∷ c ∷ 0 ∷ 0 ∷ []) (kinds ++ replicate (32 - c) 0) (replicate (c * 2) 0 ++ replicate (64 - c * 2) 0) (replicate n 0) (replicate (n * n) 0) (replicate (w - 0) 0) x
-    ∙ ap (λ (l : List ℕ). tableMark ∷ n ∷ header .own ∷ header .capacity ∷ c ∷ 0 ∷ 0 ∷ l) (append-assoc kinds (replicate (32 - c) 0) _ ∙ ap (λ (l : List ℕ). kinds ++ (replicate (32 - c) 0 ++ l)) (append-assoc (replicate (c * 2) 0) (replicate (64 - c * 2) 0) _) ∙ ap (λ (l : List ℕ). kinds ++ l) rest))
+    (in-a-row (tableMark ∷ n ∷ header .own ∷ header .capacity ∷ c ∷ 0 ∷ 0 ∷ []) (kinds ++ replicate (mostObjects - c) 0) (replicate (c * 2) 0 ++ replicate (totalsWidth - c * 2) 0) (replicate n 0) (replicate (n * n) 0) (replicate (w - 0) 0) x
+    ∙ ap (λ (l : List ℕ). tableMark ∷ n ∷ header .own ∷ header .capacity ∷ c ∷ 0 ∷ 0 ∷ l) (append-assoc kinds (replicate (mostObjects - c) 0) _ ∙ ap (λ (l : List ℕ). kinds ++ (replicate (mostObjects - c) 0 ++ l)) (append-assoc (replicate (c * 2) 0) (replicate (totalsWidth - c * 2) 0) _) ∙ ap (λ (l : List ℕ). kinds ++ l) rest))
 
 -- a turn of writing the kinds
 pub put-turn : (s t new : List ℕ) (at j r : ℕ) → at + length new ≤ length s → j < length new → r ≡ getD new j 0 → t ≡ paste s at new j → set t (at + j) r ≡ paste s at new (j + 1)
@@ -73,11 +73,11 @@ module _ (s kinds : List ℕ) (size own capacity : ℕ) (range : inRange (header
   H : HeaderFacts (headerOf size own capacity kinds)
   H = header-facts (headerOf size own capacity kinds) range
 
-  pub small : capacity ≤ 512
+  pub small : capacity ≤ greatestCapacity n
   small = H .capacity-range .1
 
   module _ (n : ℕ) (en : n ≡ size) where
-    pub few : n ≤ 16
+    pub few : n ≤ greatestSize
     few = let h = H .size-range .1 in omega arith
 
     module _ (needed : ℕ) (e : needed ≡ spaceFor n capacity) where

@@ -1,6 +1,6 @@
 -- The ranges of an opening's numbers, and the space that they ask for.
 use Prim.Native.Nat.{ℕ, suc, _+_, _*_, _≤_, _<_}
-use mathlib.Core.Path.{_≡_, refl, sym, _∙_}
+use mathlib.Core.Path.{_≡_, refl, ap, sym, _∙_}
 use mathlib.Core.Bool.{Bool, true, false, _&&_, and-true, and-false}
 use mathlib.Core.List.{List}
 use native.Mathlib.Nat.{mul-le-mul}
@@ -13,8 +13,8 @@ use lib.Dec.{leb}
 use lib.ListN.{length, getD, drop, drop-of-length-le}
 use lib.Seq.{drop-cons}
 use Rattle.meaning.specs.Tests.{every, between}
-use Rattle.meaning.specs.Table.{headerRules, inRange}
-use Rattle.words_layout.specs.Layout.{spaceFor}
+use Rattle.meaning.specs.Table.{headerRules, inRange, greatestSize, greatestCapacity, mostObjects}
+use Rattle.words_layout.specs.Layout.{spaceFor, clockAt, rowWidth, mostWords, mostBeforeRows, mostRowWords}
 use Rattle.table_ranges.specs.Headers.{headerOf}
 
 -- a number in a range
@@ -26,9 +26,6 @@ module _ (number least greatest : ℕ) where
   pub range-from : least ≤ number → leb number greatest ≡ between least greatest number
   unfolding between
   range-from h = rw (le-leb least number h) refl
-
-pub objects-from : (objects most : ℕ) → 1 ≤ objects → most ≡ 32 → leb objects most ≡ between 1 32 objects
-objects-from objects most h e = rw e (range-from objects 1 32 h)
 
 -- i kinds are passed: what was noted and the test of the rest make the test of all
 pub record Known (kinds : List ℕ) (good : Bool) (i : ℕ) : Type 0 where
@@ -53,7 +50,7 @@ module _ (kinds : List ℕ) (good : Bool) (i : ℕ) (K : Known kinds good i) whe
   known-done h = sym (and-true good) ∙ (rw (drop-of-length-le kinds {i = i} h) at (K .whole))
 
 -- the header's rules, one after the other
-module _ (size own capacity : ℕ) (kinds : List ℕ) (a : Bool) (ea : a ≡ between 1 16 size) where
+module _ (size own capacity : ℕ) (kinds : List ℕ) (a : Bool) (ea : a ≡ between 1 greatestSize size) where
   pub range-size : a ≡ false → false ≡ inRange (headerOf size own capacity kinds)
   unfolding inRange headerRules
   range-size f = rw (sym ea ∙ f) refl
@@ -63,7 +60,7 @@ module _ (size own capacity : ℕ) (kinds : List ℕ) (a : Bool) (ea : a ≡ bet
     unfolding inRange headerRules
     range-own l = rw (sym ea ∙ ta, le-ltb own size l) refl
 
-    module _ (o : own < size) (b : Bool) (eb : b ≡ between 1 32 (length kinds)) where
+    module _ (o : own < size) (b : Bool) (eb : b ≡ between 1 mostObjects (length kinds)) where
       pub range-objects : b ≡ false → false ≡ inRange (headerOf size own capacity kinds)
       unfolding inRange headerRules
       range-objects f = rw (sym ea ∙ ta, lt-ltb own size o, sym eb ∙ f) refl
@@ -73,37 +70,37 @@ module _ (size own capacity : ℕ) (kinds : List ℕ) (a : Bool) (ea : a ≡ bet
         unfolding inRange headerRules
         range-kinds f = rw (sym ea ∙ ta, lt-ltb own size o, sym eb ∙ tb, sym ec ∙ f) refl
 
-        pub range-capacity : c ≡ true → (d : Bool) → d ≡ between 1 512 capacity → d ≡ inRange (headerOf size own capacity kinds)
+        pub range-capacity : c ≡ true → (g : ℕ) → g ≡ greatestCapacity size → (d : Bool) → d ≡ between 1 g capacity → d ≡ inRange (headerOf size own capacity kinds)
         unfolding inRange headerRules
-        range-capacity f d ed = ed ∙ rw (sym ea ∙ ta, lt-ltb own size o, sym eb ∙ tb, sym ec ∙ f) (sym (and-true (between 1 512 capacity)))
+        range-capacity f g eg d ed = ed ∙ ap (λ (most : ℕ). between 1 most capacity) eg ∙ rw (sym ea ∙ ta, lt-ltb own size o, sym eb ∙ tb, sym ec ∙ f) (sym (and-true (between 1 (greatestCapacity size) capacity)))
 
 -- the space
-square : (n : ℕ) → n ≤ 16 → n * n ≤ 256
+square : (n : ℕ) → n ≤ greatestSize → n * n ≤ greatestSize * greatestSize
 square n h = mul-le-mul h h
 
-pub square-fits : (n : ℕ) → n ≤ 16 → Fits w64 (n * n)
+pub square-fits : (n : ℕ) → n ≤ greatestSize → Fits w64 (n * n)
 square-fits n h = omega (arith, square n h)
 
-pub rows-place-fits : (n : ℕ) → n ≤ 16 → Fits w64 (103 + n + n * n)
+pub rows-place-fits : (n : ℕ) → n ≤ greatestSize → Fits w64 (clockAt + n + n * n)
 rows-place-fits n h = omega (arith, square n h)
 
-pub rows-place : (n : ℕ) → n ≤ 16 → 103 + n + n * n ≤ 375
+pub rows-place : (n : ℕ) → n ≤ greatestSize → clockAt + n + n * n ≤ mostBeforeRows
 rows-place n h = omega (arith, square n h)
 
-area : (n c : ℕ) → n ≤ 16 → c ≤ 512 → c * (7 + n) ≤ 11776
-area n c h k = let w : 7 + n ≤ 23 = omega arith in mul-le-mul k w
+area : (n c : ℕ) → n ≤ greatestSize → c ≤ greatestCapacity n → c * (7 + n) ≤ mostRowWords
+area n c h k = let w : 7 + n ≤ rowWidth greatestSize = omega arith in mul-le-mul k w
 
 -- the number of rows as a place
-module _ (n capacity c : ℕ) (h : n ≤ 16) (k : capacity ≤ 512) (e : c ≡ capacity) where
+module _ (n capacity c : ℕ) (h : n ≤ greatestSize) (k : capacity ≤ greatestCapacity n) (e : c ≡ capacity) where
   pub area-fits : Fits w64 (c * (7 + n))
   area-fits = rw e (omega (arith, area n capacity h k))
 
-  module _ (r : ℕ) (l : r ≤ 375) where
+  module _ (r : ℕ) (l : r ≤ mostBeforeRows) where
     pub space-fits : Fits w64 (r + c * (7 + n))
     space-fits = rw e (omega (arith, area n capacity h k))
 
-    pub space-most : r + c * (7 + n) ≤ 12151
+    pub space-most : r + c * (7 + n) ≤ mostWords
     space-most = rw e (omega (arith, area n capacity h k))
 
-    pub space-is : r ≡ 103 + n + n * n → r + c * (7 + n) ≡ spaceFor n capacity
+    pub space-is : r ≡ clockAt + n + n * n → r + c * (7 + n) ≡ spaceFor n capacity
     space-is q = rw (e, q) refl

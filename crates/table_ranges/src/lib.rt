@@ -2,22 +2,13 @@
 ghost use mathlib.Core.Path.{_≡_};
 ghost use Prim.Native.Nat.{_≤_};
 ghost use Rattle.meaning.specs.Tests.{between, every};
-ghost use Rattle.meaning.specs.Table.{greatestKind, inRange, mostObjects};
-ghost use Rattle.words_layout.specs.Layout.{rowsAt, spaceFor};
+ghost use Rattle.meaning.specs.Table.{greatestKind, inRange, mostObjects, greatestSize, greatestCapacity};
+ghost use Rattle.words_layout.specs.Layout.{rowsAt, spaceFor, mostWords, mostBeforeRows};
 ghost use Rattle.table_ranges.specs.Headers.{headerOf};
-ghost use Rattle.table_ranges.specs.Spaces.{mostBeforeRows, mostWords};
 use words_layout::CLOCK_AT;
 use words_layout::KEY;
 use words_tags::RowCount;
 use words_tags::Station;
-
-pub const GREATEST_SIZE: u32 = 16;
-
-pub const GREATEST_CAPACITY: u32 = 512;
-
-pub const MOST_OBJECTS: u32 = 32;
-
-pub const GREATEST_KIND: u32 = 9;
 
 // Whether a number is from the least to the greatest.
 pub fn in_range(number: u32, least: u32, greatest: u32) -> bool
@@ -29,6 +20,13 @@ pub fn in_range(number: u32, least: u32, greatest: u32) -> bool
     number <= greatest
 }
 
+// The greatest capacity of a group of this size.
+pub fn greatest_capacity(size: u32) -> u32
+    ensures { λ r. ⌜ r ≡ greatestCapacity size ⌝ }
+{
+    meaning::MOST_ROWS
+}
+
 // Whether a table may have so many objects; a length need not fit a word.
 fn is_object_count(objects: usize) -> bool
     ensures { λ r. ⌜ r ≡ between 1 mostObjects objects ⌝ }
@@ -36,14 +34,14 @@ fn is_object_count(objects: usize) -> bool
     if objects < 1 {
         return false;
     }
-    objects <= words_tags::wide(MOST_OBJECTS)
+    objects <= meaning::MOST_OBJECTS
 }
 
 // Whether a kind is one of the nine.
 fn is_kind(kind: u8) -> bool
     ensures { λ r. ⌜ r ≡ between 1 greatestKind kind ⌝ }
 {
-    in_range(kind as u32, 1, GREATEST_KIND)
+    in_range(kind as u32, 1, meaning::GREATEST_KIND)
 }
 
 // Whether every kind is one of the nine.
@@ -65,7 +63,7 @@ fn kinds_known(kinds: &[u8]) -> bool
 pub fn header_ok(size: u32, own: Station, capacity: RowCount, kinds: &[u8]) -> bool
     ensures { λ r. ⌜ r ≡ inRange (headerOf size (own .0) (capacity .0) (now (kinds .entry))) ⌝ }
 {
-    if !in_range(size, 1, GREATEST_SIZE) {
+    if !in_range(size, 1, meaning::GREATEST_SIZE) {
         return false;
     }
     if size <= own.0 {
@@ -77,12 +75,12 @@ pub fn header_ok(size: u32, own: Station, capacity: RowCount, kinds: &[u8]) -> b
     if !kinds_known(kinds) {
         return false;
     }
-    in_range(capacity.0, 1, GREATEST_CAPACITY)
+    in_range(capacity.0, 1, greatest_capacity(size))
 }
 
 // Where the rows of a group of this size start.
 pub fn rows_at(size: usize) -> usize
-    requires { ⌜ size ≤ 16 ⌝ }
+    requires { ⌜ size ≤ greatestSize ⌝ }
     ensures { λ r. ⌜ (r ≡ rowsAt size) × (r ≤ mostBeforeRows) ⌝ }
 {
     CLOCK_AT + size + size * size
@@ -90,7 +88,7 @@ pub fn rows_at(size: usize) -> usize
 
 // How many words a table needs.
 pub fn space_for(size: usize, capacity: RowCount) -> usize
-    requires { ⌜ (size ≤ 16) × (capacity .0 ≤ 512) ⌝ }
+    requires { ⌜ (size ≤ greatestSize) × (capacity .0 ≤ greatestCapacity size) ⌝ }
     ensures { λ r. ⌜ (r ≡ spaceFor size (capacity .0)) × (r ≤ mostWords) ⌝ }
 {
     rows_at(size) + words_tags::wide(capacity.0) * (KEY + size)

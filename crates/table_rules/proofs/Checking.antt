@@ -8,10 +8,10 @@ use native.Mathlib.Nat.{mul-le-mul, mul-le-mul-right}
 use lib.Dec.{leb}
 use lib.ListN.{length}
 use Rattle.meaning.specs.Order.{same}
-use Rattle.meaning.specs.Table.{isTable}
+use Rattle.meaning.specs.Table.{isTable, greatestSize, greatestCapacity}
 use Rattle.meaning.proofs.Tests.{and-left, and-right}
 use Rattle.meaning.proofs.Vectors.{same-eq}
-use Rattle.words_layout.specs.Layout.{isSpelt, holdsTable, tableOf, rewritten, spaceFor, sizeIn, capacityIn, countIn}
+use Rattle.words_layout.specs.Layout.{isSpelt, holdsTable, tableOf, rewritten, spaceFor, sizeIn, capacityIn, countIn, rowWidth}
 use Rattle.table_rules.specs.TableTests.{Headed}
 use Rattle.table_rules.proofs.Holding.{table-headed}
 use Rattle.table_rules.specs.Checked.{Checked}
@@ -30,8 +30,8 @@ module _ (s : List ℕ) (h : holdsTable s ≡ true) where
 
   pub checked : Checked s
   checked =
-      let w : 7 + sizeIn s ≤ 23 = omega (arith, H .few) in
-      let fewer : countIn s ≤ 512 = omega (arith, H .within, H .small) in
+      let w : 7 + sizeIn s ≤ rowWidth greatestSize = omega (arith, H .few) in
+      let fewer : countIn s ≤ greatestCapacity (sizeIn s) = omega (arith, H .within, H .small) in
       let rows : countIn s * (7 + sizeIn s) ≤ capacityIn s * (7 + sizeIn s) = mul-le-mul-right (7 + sizeIn s) (H .within) in
       record {
         holds = h;

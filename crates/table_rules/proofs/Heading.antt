@@ -9,8 +9,9 @@ use lib.Dec.{leb, ltb, eqb}
 use lib.ListN.{length, getD}
 use Rattle.meaning.specs.Tests.{between}
 use Rattle.meaning.proofs.Tests.{and-left, and-right, between-out, between-in}
-use Rattle.words_layout.specs.Layout.{tableMark, spaceFor, sizeIn, ownIn, capacityIn, objectsIn, countIn}
+use Rattle.words_layout.specs.Layout.{tableMark, spaceFor, sizeIn, ownIn, capacityIn, objectsIn, countIn, clockAt}
 use Rattle.table_rules.specs.TableTests.{sizesKept, headKept, Headed}
+use Rattle.meaning.specs.Table.{greatestSize, greatestCapacity, mostObjects}
 
 -- the numbers of the head: a test that fails decides, whatever the ones before it say
 past-two : (a b : Bool) → false ≡ (a && (b && false))
@@ -22,54 +23,54 @@ past-three true b c = past-two b c
 past-three false b c = refl
 
 module _ (size own capacity objects count : ℕ) where
-  pub sizes-size : (a : Bool) → a ≡ between 1 16 size → a ≡ false → false ≡ sizesKept size own capacity objects count
+  pub sizes-size : (a : Bool) → a ≡ between 1 greatestSize size → a ≡ false → false ≡ sizesKept size own capacity objects count
   unfolding sizesKept
   sizes-size a e h = rw (sym e ∙ h) refl
 
   pub sizes-own : size ≤ own → false ≡ sizesKept size own capacity objects count
   unfolding sizesKept
-  sizes-own h = rw (le-ltb own size h) (sym (and-false (between 1 16 size)))
+  sizes-own h = rw (le-ltb own size h) (sym (and-false (between 1 greatestSize size)))
 
-  pub sizes-capacity : (b : Bool) → b ≡ between 1 512 capacity → b ≡ false → false ≡ sizesKept size own capacity objects count
+  pub sizes-capacity : (b : Bool) → b ≡ between 1 (greatestCapacity size) capacity → b ≡ false → false ≡ sizesKept size own capacity objects count
   unfolding sizesKept
-  sizes-capacity b e h = rw (sym e ∙ h) (past-two (between 1 16 size) (ltb own size))
+  sizes-capacity b e h = rw (sym e ∙ h) (past-two (between 1 greatestSize size) (ltb own size))
 
-  pub sizes-objects : (c : Bool) → c ≡ between 1 32 objects → c ≡ false → false ≡ sizesKept size own capacity objects count
+  pub sizes-objects : (c : Bool) → c ≡ between 1 mostObjects objects → c ≡ false → false ≡ sizesKept size own capacity objects count
   unfolding sizesKept
-  sizes-objects c e h = rw (sym e ∙ h) (past-three (between 1 16 size) (ltb own size) (between 1 512 capacity))
+  sizes-objects c e h = rw (sym e ∙ h) (past-three (between 1 greatestSize size) (ltb own size) (between 1 (greatestCapacity size) capacity))
 
 -- a test that did not leave
 pub passed-test : (r x : Bool) → r ≡ x → not r ≡ false → x ≡ true
 passed-test r x e h = sym e ∙ not-false r h
 
-pub sizes-count : (size own capacity objects count : ℕ) → between 1 16 size ≡ true → own < size → between 1 512 capacity ≡ true → between 1 32 objects ≡ true → leb count capacity ≡ sizesKept size own capacity objects count
+pub sizes-count : (size own capacity objects count : ℕ) → between 1 greatestSize size ≡ true → own < size → between 1 (greatestCapacity size) capacity ≡ true → between 1 mostObjects objects ≡ true → leb count capacity ≡ sizesKept size own capacity objects count
 unfolding sizesKept
 sizes-count size own capacity objects count a o b c = rw (a, lt-ltb own size o, b, c) refl
 
 pub record Sizes (size own capacity objects count : ℕ) : Type 0 where
   pub some : 1 ≤ size
-  pub few : size ≤ 16
+  pub few : size ≤ greatestSize
   pub within-group : own < size
   pub rooms : 1 ≤ capacity
-  pub small : capacity ≤ 512
+  pub small : capacity ≤ greatestCapacity size
   pub object : 1 ≤ objects
-  pub most : objects ≤ 32
+  pub most : objects ≤ mostObjects
   pub within : count ≤ capacity
 
 pub sizes-out : (size own capacity objects count : ℕ) → sizesKept size own capacity objects count ≡ true → Sizes size own capacity objects count
 unfolding sizesKept
 sizes-out size own capacity objects count e =
-    let a = between 1 16 size in
+    let a = between 1 greatestSize size in
     let b = ltb own size in
-    let c = between 1 512 capacity in
-    let d = between 1 32 objects in
+    let c = between 1 (greatestCapacity size) capacity in
+    let d = between 1 mostObjects objects in
     let f = leb count capacity in
     let e1 = and-right a (b && (c && (d && f))) e in
     let e2 = and-right b (c && (d && f)) e1 in
     let e3 = and-right c (d && f) e2 in
-    let sized = between-out 1 16 size (and-left a (b && (c && (d && f))) e) in
-    let roomy = between-out 1 512 capacity (and-left c (d && f) e2) in
-    let many = between-out 1 32 objects (and-left d f e3) in
+    let sized = between-out 1 greatestSize size (and-left a (b && (c && (d && f))) e) in
+    let roomy = between-out 1 (greatestCapacity size) capacity (and-left c (d && f) e2) in
+    let many = between-out 1 mostObjects objects (and-left d f e3) in
     record {
       some = sized .0;
       few = sized .1;
@@ -84,14 +85,14 @@ sizes-out size own capacity objects count e =
 pub sizes-in : (size own capacity objects count : ℕ) → Sizes size own capacity objects count → sizesKept size own capacity objects count ≡ true
 unfolding sizesKept
 sizes-in size own capacity objects count Z =
-    rw (between-in 1 16 size (Z .some) (Z .few), lt-ltb own size (Z .within-group), between-in 1 512 capacity (Z .rooms) (Z .small), between-in 1 32 objects (Z .object) (Z .most)) (le-leb count capacity (Z .within))
+    rw (between-in 1 greatestSize size (Z .some) (Z .few), lt-ltb own size (Z .within-group), between-in 1 (greatestCapacity size) capacity (Z .rooms) (Z .small), between-in 1 mostObjects objects (Z .object) (Z .most)) (le-leb count capacity (Z .within))
 
 -- the head
 module _ (s : List ℕ) (r : Bool) (e : r ≡ sizesKept (getD s 1 0) (getD s 2 0) (getD s 3 0) (getD s 4 0) (getD s 5 0)) (h : r ≡ true) where
-  pub head-few : getD s 1 0 ≤ 16
+  pub head-few : getD s 1 0 ≤ greatestSize
   head-few = sizes-out (getD s 1 0) (getD s 2 0) (getD s 3 0) (getD s 4 0) (getD s 5 0) (sym e ∙ h) .few
 
-  pub head-small : getD s 3 0 ≤ 512
+  pub head-small : getD s 3 0 ≤ greatestCapacity (getD s 1 0)
   head-small = sizes-out (getD s 1 0) (getD s 2 0) (getD s 3 0) (getD s 4 0) (getD s 5 0) (sym e ∙ h) .small
 
 module _ (s : List ℕ) where
@@ -118,7 +119,7 @@ module _ (s : List ℕ) where
 pub room-there : (s : List ℕ) (n p : ℕ) → n ≡ getD s 1 0 → p ≡ spaceFor n (getD s 3 0) → leb p (length s) ≡ leb (spaceFor (getD s 1 0) (getD s 3 0)) (length s)
 room-there s n p en q = rw (q, en) refl
 
-pub head-short : (s : List ℕ) → length s < 103 → false ≡ headKept s
+pub head-short : (s : List ℕ) → length s < clockAt → false ≡ headKept s
 unfolding headKept
 head-short s h =
     let room = lt-leb (spaceFor (sizeIn s) (capacityIn s)) (length s) (omega arith) in

@@ -13,13 +13,13 @@ use lib.Seq.{take-at, drop-at, drop-drop, getD-take, getD-drop, length-take-le}
 use Rattle.meaning.specs.Tests.{every, everyAt, between}
 use Rattle.meaning.specs.Order.{Vector, entryLimit, atMost, same}
 use Rattle.meaning.specs.Rows.{inOrder}
-use Rattle.meaning.specs.Table.{Table, kindIn, zeros, headerRules, inRange, clockRule, lastRule, lastsRule, totalBound, totalRule, totalsRule, rowRule, oneRowAValue, tableRules, isTable}
+use Rattle.meaning.specs.Table.{Table, kindIn, zeros, headerRules, inRange, clockRule, lastRule, lastsRule, totalBound, totalRule, totalsRule, rowRule, oneRowAValue, tableRules, isTable, greatestSize, greatestCapacity, mostObjects}
 use Rattle.meaning.proofs.Tests.{cases, clash, iff, fails, and-left, and-right, and-both, rule-at, between-in}
 use Rattle.meaning.proofs.Vectors.{same-eq, eq-same}
 use Rattle.meaning.proofs.Ascending.{order-sorted, sorted-order}
 use Rattle.meaning.proofs.TableFacts.{HeaderFacts, header-facts}
-use Rattle.words_layout.specs.Words.{allZero, pieces, flat, padded}
-use Rattle.words_layout.specs.Layout.{Laid, totalWords, totalOfWords, totalsWords, rowWords, rowOf, headWords, rowsWords, wordsOf, tableOf, rewritten, beyond, spaceFor, rowsAt, rowsIn, sizeIn, ownIn, capacityIn, objectsIn, countIn, isSpelt, holdsTable}
+use Rattle.words_layout.specs.Words.{allZero, pieces, flat, padded, wordLimit}
+use Rattle.words_layout.specs.Layout.{Laid, totalWords, totalOfWords, totalsWords, rowWords, rowOf, headWords, rowsWords, wordsOf, tableOf, rewritten, beyond, spaceFor, rowsAt, rowsIn, sizeIn, ownIn, capacityIn, objectsIn, countIn, isSpelt, holdsTable, clockAt, totalsAt, totalsWidth}
 use Rattle.words_layout.proofs.Pieces.{Wide, Each, length-pieces, length-flat, wide-pieces}
 use Rattle.words_layout.proofs.RowWords.{Spelt, row-written}
 use Rattle.words_layout.proofs.Whole.{length-padded, wide-totals, each-spelt, after-rows}
@@ -70,7 +70,7 @@ behind s l rest a i k e h =
 -- rows, each by itself
 module _ (n : ℕ) (table : Table) (e : table .header .size ≡ n) where
   abbrev Low : List (List ℕ) → Type 0
-  Low l = Each (λ (ws : List ℕ). getD ws 2 0 < 4294967296) l
+  Low l = Each (λ (ws : List ℕ). getD ws 2 0 < wordLimit) l
 
   all-spelt : (l : List (List ℕ)) → Wide (7 + n) l → Low l → every (rowKept (table .header .kinds) (table .clock)) l ≡ true → Each (Spelt n) l
   all-spelt [] w f k = tt
@@ -98,15 +98,15 @@ all-written : (n : ℕ) (l : List (List ℕ)) → Each (Spelt n) l → Each (λ 
 all-written n [] h = tt
 all-written n (r ∷ l) h = (row-written n r (h .0), all-written n l (h .1))
 
-all-readable : (n : ℕ) (l : List (List ℕ)) → Wide (7 + n) l → Each (λ (ws : List ℕ). getD ws 2 0 < 4294967296) l → Each (λ (ws : List ℕ). rowWords n (rowOf ws) ≡ ws) l → Each (Readable n) l
+all-readable : (n : ℕ) (l : List (List ℕ)) → Wide (7 + n) l → Each (λ (ws : List ℕ). getD ws 2 0 < wordLimit) l → Each (λ (ws : List ℕ). rowWords n (rowOf ws) ≡ ws) l → Each (Readable n) l
 all-readable n [] w f b = tt
 all-readable n (r ∷ l) w f b = (record { long = omega (arith, w .0); low = f .0; written = b .0 }, all-readable n l (w .1) (f .1) (b .1))
 
-all-low : (w k : ℕ) (s : List ℕ) → 2 < w → ((i : ℕ) → getD s i 0 < 4294967296) → Each (λ (ws : List ℕ). getD ws 2 0 < 4294967296) (pieces w k s)
+all-low : (w k : ℕ) (s : List ℕ) → 2 < w → ((i : ℕ) → getD s i 0 < wordLimit) → Each (λ (ws : List ℕ). getD ws 2 0 < wordLimit) (pieces w k s)
 all-low w zero s h f = tt
 all-low w (suc k) s h f = (rw (getD-take w s 2 0 h) (f 2), all-low w k (drop w s) h (λ i. rw (getD-drop w s i 0) (f (w + i))))
 
-every-word : (l : List ℕ) → ((i : ℕ) → getD l i 0 < 4294967296) → every (λ (entry : ℕ). ltb entry entryLimit) l ≡ true
+every-word : (l : List ℕ) → ((i : ℕ) → getD l i 0 < wordLimit) → every (λ (entry : ℕ). ltb entry entryLimit) l ≡ true
 every-word [] f = refl
 every-word (x ∷ l) f = and-both (ltb x entryLimit) (every (λ (entry : ℕ). ltb entry entryLimit) l) (lt-ltb x entryLimit (f 0)) (every-word l (λ i. f (suc i)))
 
@@ -116,10 +116,10 @@ module _ (s : List ℕ) (H : Headed s) where
   clock = clockIn s
 
   abbrev lasts : List (List ℕ)
-  lasts = pieces (sizeIn s) (sizeIn s) (drop (103 + sizeIn s) s)
+  lasts = pieces (sizeIn s) (sizeIn s) (drop (clockAt + sizeIn s) s)
 
   wide-lasts : Wide (sizeIn s) lasts
-  wide-lasts = wide-pieces (sizeIn s) (sizeIn s) (drop (103 + sizeIn s) s) (simp length-drop (omega (arith, H .room)))
+  wide-lasts = wide-pieces (sizeIn s) (sizeIn s) (drop (clockAt + sizeIn s) s) (simp length-drop (omega (arith, H .room)))
 
   wide-rows : Wide (7 + sizeIn s) (rowsIn s)
   wide-rows = wide-pieces (7 + sizeIn s) (countIn s) (drop (rowsAt (sizeIn s)) s) (simp length-drop (omega (arith, H .room, row-area s H)))
@@ -127,7 +127,7 @@ module _ (s : List ℕ) (H : Headed s) where
   header-rule : inRange (tableOf s .header) ≡ every (between 1 9) (kindsIn s)
   unfolding inRange headerRules tableOf
   header-rule =
-      rw (kinds-long s H, between-in 1 16 (sizeIn s) (H .some) (H .few), lt-ltb (ownIn s) (sizeIn s) (H .own), between-in 1 32 (objectsIn s) (H .object) (H .objects), between-in 1 512 (capacityIn s) (H .rooms) (H .small))
+      rw (kinds-long s H, between-in 1 greatestSize (sizeIn s) (H .some) (H .few), lt-ltb (ownIn s) (sizeIn s) (H .own), between-in 1 mostObjects (objectsIn s) (H .object) (H .objects), between-in 1 (greatestCapacity (sizeIn s)) (capacityIn s) (H .rooms) (H .small))
       (and-true (every (between 1 9) (kindsIn s)))
 
   last-rule : (k : ℕ) (v : List ℕ) → length v ≡ sizeIn s → lastRule (tableOf s) k v ≡ lastKept (ownIn s) (clockIn s) k v
@@ -139,32 +139,32 @@ module _ (s : List ℕ) (H : Headed s) where
   lasts-rule : lastsRule (tableOf s) ≡ lastsKept s
   unfolding lastsRule lastsKept tableOf
   lasts-rule =
-      rw (eq-eqb (length lasts) (sizeIn s) (length-pieces (sizeIn s) (sizeIn s) (drop (103 + sizeIn s) s)))
+      rw (eq-eqb (length lasts) (sizeIn s) (length-pieces (sizeIn s) (sizeIn s) (drop (clockAt + sizeIn s) s)))
       (every-at-wide (lastRule (tableOf s)) (lastKept (ownIn s) (clockIn s)) (sizeIn s) last-rule 0 lasts wide-lasts)
 
   abbrev codes : List (List ℕ)
-  codes = pieces 2 (objectsIn s) (drop 39 s)
+  codes = pieces 2 (objectsIn s) (drop totalsAt s)
 
   totals-rule : totalsRule (tableOf s) ≡ everyAt (totalKeptAt (totalBound (clockIn s)) (kindsIn s)) 0 codes
   unfolding totalsRule totalRule totalKept kindIn tableOf
   totals-rule =
-      let many : length (map totalOfWords codes) ≡ length (kindsIn s) = length-map codes totalOfWords ∙ length-pieces 2 (objectsIn s) (drop 39 s) ∙ sym (kinds-long s H) in
+      let many : length (map totalOfWords codes) ≡ length (kindsIn s) = length-map codes totalOfWords ∙ length-pieces 2 (objectsIn s) (drop totalsAt s) ∙ sym (kinds-long s H) in
       rw (eq-eqb (length (map totalOfWords codes)) (length (kindsIn s)) many) (every-at-map totalOfWords (totalRule (tableOf s)) 0 codes)
 
   count-rows : length (map rowOf (rowsIn s)) ≡ countIn s
   count-rows = length-map (rowsIn s) rowOf ∙ length-pieces (7 + sizeIn s) (countIn s) (drop (rowsAt (sizeIn s)) s)
 
-  module _ (F : (i : ℕ) → getD s i 0 < 4294967296) where
+  module _ (F : (i : ℕ) → getD s i 0 < wordLimit) where
     clock-rule : clockRule (tableOf s) ≡ true
     unfolding clockRule tableOf
     clock-rule = and-both (eqb (length (clockIn s)) (sizeIn s)) (every (λ (entry : ℕ). ltb entry entryLimit) (clockIn s)) (eq-eqb (length (clockIn s)) (sizeIn s) (clock-long s H)) (every-word (clockIn s) word)
       where
-        word : (i : ℕ) → getD (clockIn s) i 0 < 4294967296
+        word : (i : ℕ) → getD (clockIn s) i 0 < wordLimit
         word i = cases (ltb i (sizeIn s))
-            (λ e. rw (getD-take (sizeIn s) (drop 103 s) i 0 (ltb-true i (sizeIn s) e), getD-drop 103 s i 0) (F (103 + i)))
+            (λ e. rw (getD-take (sizeIn s) (drop clockAt s) i 0 (ltb-true i (sizeIn s) e), getD-drop clockAt s i 0) (F (clockAt + i)))
             (λ e. let out : length (clockIn s) ≤ i = omega (arith, ltb-false i (sizeIn s) e, clock-long s H) in rw (List·getD-eq-default (clockIn s) 0 out) (omega arith))
 
-    low-rows : Each (λ (ws : List ℕ). getD ws 2 0 < 4294967296) (rowsIn s)
+    low-rows : Each (λ (ws : List ℕ). getD ws 2 0 < wordLimit) (rowsIn s)
     low-rows = all-low (7 + sizeIn s) (countIn s) (drop (rowsAt (sizeIn s)) s) (omega arith) (λ i. rw (getD-drop (rowsAt (sizeIn s)) s i 0) (F (rowsAt (sizeIn s) + i)))
 
     -- the tests hold: the words are what would be written, and the rules hold of what they spell
@@ -219,8 +219,8 @@ module _ (s : List ℕ) (H : Headed s) where
         idle = H .idle;
         objects = H .objects;
         within = H .within;
-        kinds = zero-part (take (32 - objectsIn s) (drop (7 + objectsIn s) s)) (32 - objectsIn s) (part-long s (7 + objectsIn s) (32 - objectsIn s) (omega (arith, H .room, H .objects))) (and-right (every (between 1 9) (kindsIn s)) (allZero (take (32 - objectsIn s) (drop (7 + objectsIn s) s))) kinds-hold);
-        totals = zero-part (take (64 - objectsIn s * 2) (drop (39 + objectsIn s * 2) s)) (64 - objectsIn s * 2) (part-long s (39 + objectsIn s * 2) (64 - objectsIn s * 2) (omega (arith, H .room, H .objects))) (and-right (everyAt (totalKeptAt (totalBound (clockIn s)) (kindsIn s)) 0 codes) (allZero (take (64 - objectsIn s * 2) (drop (39 + objectsIn s * 2) s))) totals-hold);
+        kinds = zero-part (take (mostObjects - objectsIn s) (drop (7 + objectsIn s) s)) (mostObjects - objectsIn s) (part-long s (7 + objectsIn s) (mostObjects - objectsIn s) (omega (arith, H .room, H .objects))) (and-right (every (between 1 9) (kindsIn s)) (allZero (take (mostObjects - objectsIn s) (drop (7 + objectsIn s) s))) kinds-hold);
+        totals = zero-part (take (totalsWidth - objectsIn s * 2) (drop (totalsAt + objectsIn s * 2) s)) (totalsWidth - objectsIn s * 2) (part-long s (totalsAt + objectsIn s * 2) (totalsWidth - objectsIn s * 2) (omega (arith, H .room, H .objects))) (and-right (everyAt (totalKeptAt (totalBound (clockIn s)) (kindsIn s)) 0 codes) (allZero (take (totalsWidth - objectsIn s * 2) (drop (totalsAt + objectsIn s * 2) s))) totals-hold);
         rows = rows-spelt;
         unused = zero-part (take (capacityIn s * (7 + sizeIn s) - countIn s * (7 + sizeIn s)) (drop (rowsAt (sizeIn s) + countIn s * (7 + sizeIn s)) s)) (capacityIn s * (7 + sizeIn s) - countIn s * (7 + sizeIn s)) (part-long s (rowsAt (sizeIn s) + countIn s * (7 + sizeIn s)) (capacityIn s * (7 + sizeIn s) - countIn s * (7 + sizeIn s)) (omega (arith, H .room, row-area s H))) unused-hold;
       }
@@ -247,11 +247,11 @@ module _ (s : List ℕ) (H : Headed s) where
 
       kinds-every : every (between 1 9) (kindsIn s) ≡ true
       unfolding kindsKept
-      kinds-every = and-left (every (between 1 9) (kindsIn s)) (allZero (take (32 - objectsIn s) (drop (7 + objectsIn s) s))) kinds-hold
+      kinds-every = and-left (every (between 1 9) (kindsIn s)) (allZero (take (mostObjects - objectsIn s) (drop (7 + objectsIn s) s))) kinds-hold
 
       totals-every : everyAt (totalKeptAt (totalBound (clockIn s)) (kindsIn s)) 0 codes ≡ true
       unfolding totalsKept
-      totals-every = and-left (everyAt (totalKeptAt (totalBound (clockIn s)) (kindsIn s)) 0 codes) (allZero (take (64 - objectsIn s * 2) (drop (39 + objectsIn s * 2) s))) totals-hold
+      totals-every = and-left (everyAt (totalKeptAt (totalBound (clockIn s)) (kindsIn s)) 0 codes) (allZero (take (totalsWidth - objectsIn s * 2) (drop (totalsAt + objectsIn s * 2) s))) totals-hold
 
       rules-hold : isTable (tableOf s) ≡ true
       unfolding isTable tableRules
@@ -311,39 +311,39 @@ module _ (s : List ℕ) (h : holdsTable s ≡ true) where
   abbrev table : Table
   table = tableOf s
 
-  apart : s ≡ headWords table ++ (padded 32 (table .header .kinds) ++ (padded 64 (totalsWords (table .totals)) ++ (table .clock ++ (flat (table .last) ++ (rowsWords table ++ beyond s)))))
+  apart : s ≡ headWords table ++ (padded mostObjects (table .header .kinds) ++ (padded totalsWidth (totalsWords (table .totals)) ++ (table .clock ++ (flat (table .last) ++ (rowsWords table ++ beyond s)))))
   unfolding rewritten
   apart = written ∙ spread table (beyond s)
 
-  at-kinds : drop 7 s ≡ padded 32 (table .header .kinds) ++ (padded 64 (totalsWords (table .totals)) ++ (table .clock ++ (flat (table .last) ++ (rowsWords table ++ beyond s))))
+  at-kinds : drop 7 s ≡ padded mostObjects (table .header .kinds) ++ (padded totalsWidth (totalsWords (table .totals)) ++ (table .clock ++ (flat (table .last) ++ (rowsWords table ++ beyond s))))
   at-kinds = ap (drop 7) apart
 
   long-kinds : length (table .header .kinds) ≡ objectsIn s
   unfolding tableOf
   long-kinds = kinds-long s table-headed
 
-  at-totals : drop 39 s ≡ padded 64 (totalsWords (table .totals)) ++ (table .clock ++ (flat (table .last) ++ (rowsWords table ++ beyond s)))
+  at-totals : drop totalsAt s ≡ padded totalsWidth (totalsWords (table .totals)) ++ (table .clock ++ (flat (table .last) ++ (rowsWords table ++ beyond s)))
   at-totals =
-      let few : length (table .header .kinds) ≤ 32 = omega (arith, long-kinds, table-headed .objects) in
-      sym (drop-drop 32 7 s) ∙ ap (drop 32) at-kinds ∙ drop-at (padded 32 (table .header .kinds)) (padded 64 (totalsWords (table .totals)) ++ (table .clock ++ (flat (table .last) ++ (rowsWords table ++ beyond s)))) 32 (length-padded 32 (table .header .kinds) few)
+      let few : length (table .header .kinds) ≤ mostObjects = omega (arith, long-kinds, table-headed .objects) in
+      sym (drop-drop mostObjects 7 s) ∙ ap (drop mostObjects) at-kinds ∙ drop-at (padded mostObjects (table .header .kinds)) (padded totalsWidth (totalsWords (table .totals)) ++ (table .clock ++ (flat (table .last) ++ (rowsWords table ++ beyond s)))) mostObjects (length-padded mostObjects (table .header .kinds) few)
 
   long-totals : length (totalsWords (table .totals)) ≡ objectsIn s * 2
   unfolding tableOf
   long-totals =
       length-flat 2 (map totalWords (table .totals)) (wide-totals (table .totals))
-      ∙ ap (λ (m : ℕ). m * 2) (length-map (table .totals) totalWords ∙ length-map (pieces 2 (objectsIn s) (drop 39 s)) totalOfWords ∙ length-pieces 2 (objectsIn s) (drop 39 s))
+      ∙ ap (λ (m : ℕ). m * 2) (length-map (table .totals) totalWords ∙ length-map (pieces 2 (objectsIn s) (drop totalsAt s)) totalOfWords ∙ length-pieces 2 (objectsIn s) (drop totalsAt s))
 
   kinds-are-kept : kindsKept s ≡ true
   unfolding kindsKept tableRules
-  kinds-are-kept = and-both (every (between 1 9) (kindsIn s)) (allZero (take (32 - objectsIn s) (drop (7 + objectsIn s) s)))
+  kinds-are-kept = and-both (every (between 1 9) (kindsIn s)) (allZero (take (mostObjects - objectsIn s) (drop (7 + objectsIn s) s)))
       (sym (header-rule s table-headed) ∙ rule 0)
-      (behind s (table .header .kinds) (padded 64 (totalsWords (table .totals)) ++ (table .clock ++ (flat (table .last) ++ (rowsWords table ++ beyond s)))) 7 (objectsIn s) 32 at-kinds long-kinds)
+      (behind s (table .header .kinds) (padded totalsWidth (totalsWords (table .totals)) ++ (table .clock ++ (flat (table .last) ++ (rowsWords table ++ beyond s)))) 7 (objectsIn s) mostObjects at-kinds long-kinds)
 
   totals-are-kept : totalsKept s ≡ true
   unfolding totalsKept tableRules
-  totals-are-kept = and-both (everyAt (totalKeptAt (totalBound (clockIn s)) (kindsIn s)) 0 (pieces 2 (objectsIn s) (drop 39 s))) (allZero (take (64 - objectsIn s * 2) (drop (39 + objectsIn s * 2) s)))
+  totals-are-kept = and-both (everyAt (totalKeptAt (totalBound (clockIn s)) (kindsIn s)) 0 (pieces 2 (objectsIn s) (drop totalsAt s))) (allZero (take (totalsWidth - objectsIn s * 2) (drop (totalsAt + objectsIn s * 2) s)))
       (sym (totals-rule s table-headed) ∙ rule 3)
-      (behind s (totalsWords (table .totals)) (table .clock ++ (flat (table .last) ++ (rowsWords table ++ beyond s))) 39 (objectsIn s * 2) 64 at-totals long-totals)
+      (behind s (totalsWords (table .totals)) (table .clock ++ (flat (table .last) ++ (rowsWords table ++ beyond s))) totalsAt (objectsIn s * 2) totalsWidth at-totals long-totals)
 
   lasts-are-kept : lastsKept s ≡ true
   unfolding tableRules
@@ -356,7 +356,7 @@ module _ (s : List ℕ) (h : holdsTable s ≡ true) where
       let at : drop (rowsAt (sizeIn s) + countIn s * (7 + sizeIn s)) s ≡ z ++ beyond s = sym (drop-drop (countIn s * (7 + sizeIn s)) (rowsAt (sizeIn s)) s) ∙ after-rows s laid in
       rw (at, take-at z (beyond s) (capacityIn s * (7 + sizeIn s) - countIn s * (7 + sizeIn s)) (length-replicate (capacityIn s * (7 + sizeIn s) - countIn s * (7 + sizeIn s)) 0)) (are-zeros (capacityIn s * (7 + sizeIn s) - countIn s * (7 + sizeIn s)))
 
-  rows-are-kept : ((i : ℕ) → getD s i 0 < 4294967296) → rowsKept (kindsIn s) (clockIn s) (rowsIn s) ≡ true
+  rows-are-kept : ((i : ℕ) → getD s i 0 < wordLimit) → rowsKept (kindsIn s) (clockIn s) (rowsIn s) ≡ true
   unfolding rowsKept tableOf tableRules kindIn
   rows-are-kept F =
       let wide = wide-rows s table-headed in
@@ -365,7 +365,7 @@ module _ (s : List ℕ) (h : holdsTable s ≡ true) where
       (all-kept (sizeIn s) (tableOf s) refl (rowsIn s) wide back (rule 6))
       (sorted-chain (sizeIn s) (kindsIn s) (rowsIn s) (all-readable (sizeIn s) (rowsIn s) wide (low-rows s table-headed F) back) (order-sorted (map rowOf (rowsIn s)) (rule 4)) (rule 7))
 
-  pub parts-are-kept : ((i : ℕ) → getD s i 0 < 4294967296) → partsKept s ≡ true
+  pub parts-are-kept : ((i : ℕ) → getD s i 0 < wordLimit) → partsKept s ≡ true
   unfolding partsKept
   parts-are-kept F = rw (kinds-are-kept, totals-are-kept, lasts-are-kept, rows-are-kept F) unused-are-kept
 
@@ -373,7 +373,7 @@ module _ (s : List ℕ) (h : holdsTable s ≡ true) where
 pub not-held : (s : List ℕ) → headKept s ≡ false → false ≡ holdsTable s
 not-held s e = sym (fails (holdsTable s) (λ h. clash (headKept s) (is-headed s (table-headed s h)) e))
 
-pub held-short : (s : List ℕ) → length s < 103 → false ≡ holdsTable s
+pub held-short : (s : List ℕ) → length s < clockAt → false ≡ holdsTable s
 held-short s h = not-held s (sym (head-short s h))
 
 module _ (s : List ℕ) (a : Bool) (ea : a ≡ headKept s) where
@@ -386,5 +386,5 @@ module _ (s : List ℕ) (a : Bool) (ea : a ≡ headKept s) where
 
     pub held-parts : ((i : ℕ) → Fits w32 (getD s i 0)) → (r : Bool) → r ≡ partsKept s → r ≡ holdsTable s
     held-parts F r e =
-        let words : (i : ℕ) → getD s i 0 < 4294967296 = λ i. F i .fits in
+        let words : (i : ℕ) → getD s i 0 < wordLimit = λ i. F i .fits in
         e ∙ iff (partsKept s) (holdsTable s) (λ k. parts-hold s told-headed words k) (λ k. parts-are-kept s k words)

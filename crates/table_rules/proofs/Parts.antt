@@ -8,9 +8,9 @@ use native.Mathlib.Nat.{mul-le-mul-right}
 use lib.ListN.{length, getD, take, drop, length-drop}
 use lib.Seq.{length-take-le}
 use Rattle.meaning.specs.Tests.{every, everyAt, between}
-use Rattle.meaning.specs.Table.{totalBound}
+use Rattle.meaning.specs.Table.{totalBound, mostObjects}
 use Rattle.words_layout.specs.Words.{allZero, pieces}
-use Rattle.words_layout.specs.Layout.{rowsIn, spaceFor, sizeIn, capacityIn, objectsIn, countIn}
+use Rattle.words_layout.specs.Layout.{rowsIn, spaceFor, sizeIn, capacityIn, objectsIn, countIn, clockAt, totalsAt, totalsWidth}
 use Rattle.table_rules_rows.specs.RowTests.{rowsKept}
 use Rattle.table_rules_rows.proofs.Tagging.{rest-is}
 use Rattle.table_rules_clock.specs.ClockTests.{totalKeptAt, lastKept}
@@ -25,22 +25,22 @@ module _ (s : List ℕ) (o : ℕ) (eo : o ≡ getD s 4 0) (r : Bool) (er : r ≡
   unfolding kindsKept
   kinds-wrong h = rw (sym kinds-told ∙ h) refl
 
-  pub kinds-beyond : r ≡ true → (z : Bool) → z ≡ allZero (take (39 - (7 + o)) (drop (7 + o) s)) → z ≡ kindsKept s
+  pub kinds-beyond : r ≡ true → (z : Bool) → z ≡ allZero (take (totalsAt - (7 + o)) (drop (7 + o) s)) → z ≡ kindsKept s
   unfolding kindsKept
   kinds-beyond h z e =
-      let q : 39 - (7 + o) ≡ 32 - getD s 4 0 = omega arith in
+      let q : totalsAt - (7 + o) ≡ mostObjects - getD s 4 0 = omega arith in
       rw (sym kinds-told ∙ h) (e ∙ rw (q, eo) refl)
 
 -- the clock and the kinds, where their ends equal what the head says
 module _ (s : List ℕ) (H : Headed s) where
-  pub clock-is : (n : ℕ) → n ≡ getD s 1 0 → take (103 + n - 103) (drop 103 s) ≡ clockIn s
-  clock-is n e = let q : 103 + n - 103 ≡ getD s 1 0 = omega arith in ap (λ (k : ℕ). take k (drop 103 s)) q
+  pub clock-is : (n : ℕ) → n ≡ getD s 1 0 → take (clockAt + n - clockAt) (drop clockAt s) ≡ clockIn s
+  clock-is n e = let q : clockAt + n - clockAt ≡ getD s 1 0 = omega arith in ap (λ (k : ℕ). take k (drop clockAt s)) q
 
   pub kinds-are : (o : ℕ) → o ≡ getD s 4 0 → take (7 + o - 7) (drop 7 s) ≡ kindsIn s
   kinds-are o e = let q : 7 + o - 7 ≡ getD s 4 0 = omega arith in ap (λ (k : ℕ). take k (drop 7 s)) q
 
   pub clock-long : length (clockIn s) ≡ sizeIn s
-  clock-long = length-take-le (sizeIn s) (drop 103 s) (simp length-drop (omega (arith, H .room)))
+  clock-long = length-take-le (sizeIn s) (drop clockAt s) (simp length-drop (omega (arith, H .room)))
 
   pub kinds-long : length (kindsIn s) ≡ objectsIn s
   kinds-long = length-take-le (objectsIn s) (drop 7 s) (simp length-drop (omega (arith, H .room, H .objects)))
@@ -49,42 +49,42 @@ module _ (s : List ℕ) (H : Headed s) where
   row-area = mul-le-mul-right (7 + sizeIn s) (H .within)
 
   -- the totals
-  module _ (o n bound : ℕ) (eo : o ≡ getD s 4 0) (en : n ≡ getD s 1 0) (eb : bound ≡ totalBound (take (103 + n - 103) (drop 103 s))) (r : Bool)
-      (er : r ≡ everyAt (totalKeptAt bound (take (7 + o - 7) (drop 7 s))) 0 (pieces 2 (length (take (7 + o - 7) (drop 7 s))) (take (length s - 39) (drop 39 s)))) where
-    totals-told : r ≡ everyAt (totalKeptAt (totalBound (clockIn s)) (kindsIn s)) 0 (pieces 2 (objectsIn s) (drop 39 s))
-    totals-told = er ∙ rw (kinds-are o eo, kinds-long, eb, clock-is n en, rest-is s 39) refl
+  module _ (o n bound : ℕ) (eo : o ≡ getD s 4 0) (en : n ≡ getD s 1 0) (eb : bound ≡ totalBound (take (clockAt + n - clockAt) (drop clockAt s))) (r : Bool)
+      (er : r ≡ everyAt (totalKeptAt bound (take (7 + o - 7) (drop 7 s))) 0 (pieces 2 (length (take (7 + o - 7) (drop 7 s))) (take (length s - totalsAt) (drop totalsAt s)))) where
+    totals-told : r ≡ everyAt (totalKeptAt (totalBound (clockIn s)) (kindsIn s)) 0 (pieces 2 (objectsIn s) (drop totalsAt s))
+    totals-told = er ∙ rw (kinds-are o eo, kinds-long, eb, clock-is n en, rest-is s totalsAt) refl
 
     pub totals-wrong : r ≡ false → false ≡ totalsKept s
     unfolding totalsKept
     totals-wrong h = rw (sym totals-told ∙ h) refl
 
-    pub totals-beyond : r ≡ true → (z : Bool) → z ≡ allZero (take (103 - (39 + o * 2)) (drop (39 + o * 2) s)) → z ≡ totalsKept s
+    pub totals-beyond : r ≡ true → (z : Bool) → z ≡ allZero (take (clockAt - (totalsAt + o * 2)) (drop (totalsAt + o * 2) s)) → z ≡ totalsKept s
     unfolding totalsKept
     totals-beyond h z e =
-        let q : 103 - (39 + o * 2) ≡ 64 - getD s 4 0 * 2 = omega arith in
+        let q : clockAt - (totalsAt + o * 2) ≡ totalsWidth - getD s 4 0 * 2 = omega arith in
         rw (sym totals-told ∙ h) (e ∙ rw (q, eo) refl)
 
   -- the vectors of the last frames
   module _ (n : ℕ) (en : n ≡ getD s 1 0) where
-    pub lasts-room : length (take (103 + n - 103) (drop 103 s)) * length (take (103 + n - 103) (drop 103 s)) ≤ length (take (length s - (103 + n)) (drop (103 + n) s))
-    lasts-room = rw (clock-is n en, clock-long, rest-is s (103 + n), en) (simp length-drop (omega (arith, H .room)))
+    pub lasts-room : length (take (clockAt + n - clockAt) (drop clockAt s)) * length (take (clockAt + n - clockAt) (drop clockAt s)) ≤ length (take (length s - (clockAt + n)) (drop (clockAt + n) s))
+    lasts-room = rw (clock-is n en, clock-long, rest-is s (clockAt + n), en) (simp length-drop (omega (arith, H .room)))
 
-    pub lasts-told : (r : Bool) → r ≡ everyAt (lastKept (getD s 2 0) (take (103 + n - 103) (drop 103 s))) 0 (pieces (length (take (103 + n - 103) (drop 103 s))) (length (take (103 + n - 103) (drop 103 s))) (take (length s - (103 + n)) (drop (103 + n) s))) → r ≡ lastsKept s
+    pub lasts-told : (r : Bool) → r ≡ everyAt (lastKept (getD s 2 0) (take (clockAt + n - clockAt) (drop clockAt s))) 0 (pieces (length (take (clockAt + n - clockAt) (drop clockAt s))) (length (take (clockAt + n - clockAt) (drop clockAt s))) (take (length s - (clockAt + n)) (drop (clockAt + n) s))) → r ≡ lastsKept s
     unfolding lastsKept
-    lasts-told r er = er ∙ rw (clock-is n en, clock-long, rest-is s (103 + n), en) refl
+    lasts-told r er = er ∙ rw (clock-is n en, clock-long, rest-is s (clockAt + n), en) refl
 
     -- the rows
-    module _ (start : ℕ) (es : start ≡ 103 + n + n * n) where
+    module _ (start : ℕ) (es : start ≡ clockAt + n + n * n) where
       pub rows-start : start ≤ length s
       rows-start = rw (es, en) (omega (arith, H .room))
 
       pub rows-room : getD s 5 0 * (7 + n) ≤ length (take (length s - start) (drop start s))
       rows-room = rw (rest-is s start, es, en) (simp length-drop (omega (arith, H .room, row-area)))
 
-      pub rows-told : (o : ℕ) → o ≡ getD s 4 0 → (r : Bool) → r ≡ rowsKept (take (7 + o - 7) (drop 7 s)) (take (103 + n - 103) (drop 103 s)) (pieces (7 + n) (getD s 5 0) (take (length s - start) (drop start s))) → r ≡ rowsKept (kindsIn s) (clockIn s) (rowsIn s)
+      pub rows-told : (o : ℕ) → o ≡ getD s 4 0 → (r : Bool) → r ≡ rowsKept (take (7 + o - 7) (drop 7 s)) (take (clockAt + n - clockAt) (drop clockAt s)) (pieces (7 + n) (getD s 5 0) (take (length s - start) (drop start s))) → r ≡ rowsKept (kindsIn s) (clockIn s) (rowsIn s)
       rows-told o eo r er = er ∙ rw (kinds-are o eo, clock-is n en, rest-is s start, es, en) refl
 
-    pub row-wide : 7 + n ≡ 7 + length (take (103 + n - 103) (drop 103 s))
+    pub row-wide : 7 + n ≡ 7 + length (take (clockAt + n - clockAt) (drop clockAt s))
     row-wide = rw (clock-is n en, clock-long, en) refl
 
     -- the words behind the rows

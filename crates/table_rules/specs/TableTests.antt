@@ -18,7 +18,7 @@ unfoldable pub sizesKept : ℕ → ℕ → ℕ → ℕ → ℕ → Bool
 sizesKept size own capacity objects count =
     between 1 greatestSize size
     && (ltb own size
-    && (between 1 greatestCapacity capacity && (between 1 mostObjects objects && leb count capacity)))
+    && (between 1 (greatestCapacity size) capacity && (between 1 mostObjects objects && leb count capacity)))
 
 -- The head: the mark, no load under way, its numbers in range, and room for what they say.
 unfoldable pub headKept : List ℕ → Bool
@@ -33,12 +33,12 @@ pub record Headed (words : List ℕ) : Type 0 where
   pub mark : getD words 0 0 ≡ tableMark
   pub idle : getD words 6 0 ≡ 0
   pub some : 1 ≤ sizeIn words
-  pub few : sizeIn words ≤ 16
+  pub few : sizeIn words ≤ greatestSize
   pub own : ownIn words < sizeIn words
   pub rooms : 1 ≤ capacityIn words
-  pub small : capacityIn words ≤ 512
+  pub small : capacityIn words ≤ greatestCapacity (sizeIn words)
   pub object : 1 ≤ objectsIn words
-  pub objects : objectsIn words ≤ 32
+  pub objects : objectsIn words ≤ mostObjects
   pub within : countIn words ≤ capacityIn words
   pub room : spaceFor (sizeIn words) (capacityIn words) ≤ length words
 

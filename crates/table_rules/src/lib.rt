@@ -5,13 +5,10 @@ ghost use Prim.Native.Nat.{_≤_};
 ghost use lib.Dec.{leb};
 ghost use lib.ListN.{length};
 ghost use Rattle.meaning.specs.Tests.{between, every};
-ghost use Rattle.words_layout.specs.Layout.{capacityIn, holdsTable, rowsIn, sizeIn, spaceFor};
+ghost use Rattle.words_layout.specs.Layout.{capacityIn, holdsTable, rowsIn, sizeIn, spaceFor, clockAt};
 ghost use Rattle.table_rules_rows.specs.RowTests.{rowsKept};
 ghost use Rattle.table_rules.specs.TableTests.{clockIn, headKept, Headed, kindsIn, kindsKept, lastsKept, partsKept, sizesKept, totalsKept, unusedKept};
-use table_ranges::GREATEST_CAPACITY;
-use table_ranges::GREATEST_KIND;
-use table_ranges::GREATEST_SIZE;
-use table_ranges::MOST_OBJECTS;
+ghost use Rattle.meaning.specs.Table.{greatestSize, greatestCapacity};
 use words_layout::CAPACITY_AT;
 use words_layout::CLOCK_AT;
 use words_layout::COUNT_AT;
@@ -51,16 +48,16 @@ pub fn sizes_ok(size: u32, own: Station, capacity: RowCount, objects: u32, count
     ensures { λ r. ⌜ r ≡ sizesKept size (own .0) (capacity .0) objects (count .0) ⌝ }
 {
     let most = capacity.0;
-    if !table_ranges::in_range(size, 1, GREATEST_SIZE) {
+    if !table_ranges::in_range(size, 1, meaning::GREATEST_SIZE) {
         return false;
     }
     if size <= own.0 {
         return false;
     }
-    if !table_ranges::in_range(most, 1, GREATEST_CAPACITY) {
+    if !table_ranges::in_range(most, 1, table_ranges::greatest_capacity(size)) {
         return false;
     }
-    if !table_ranges::in_range(objects, 1, MOST_OBJECTS) {
+    if !table_ranges::in_range(objects, 1, meaning::GREATEST_COUNT) {
         return false;
     }
     count.0 <= most
@@ -68,7 +65,7 @@ pub fn sizes_ok(size: u32, own: Station, capacity: RowCount, objects: u32, count
 
 // Whether the words are enough for the table that the head describes.
 pub fn has_room(s: &[u32]) -> bool
-    requires { ⌜ (103 ≤ length (now s)) × (sizeIn (now s) ≤ 16) × (capacityIn (now s) ≤ 512) ⌝ }
+    requires { ⌜ (clockAt ≤ length (now s)) × (sizeIn (now s) ≤ greatestSize) × (capacityIn (now s) ≤ greatestCapacity (sizeIn (now s))) ⌝ }
     ensures { λ r. ⌜ r ≡ leb (spaceFor (sizeIn (now (s .entry))) (capacityIn (now (s .entry)))) (length (now (s .entry))) ⌝ }
 {
     table_ranges::space_for(words_tags::wide(s[SIZE_AT]), RowCount(s[CAPACITY_AT])) <= s.len()
@@ -76,7 +73,7 @@ pub fn has_room(s: &[u32]) -> bool
 
 // Whether the head is a table's.
 fn head_ok(s: &[u32]) -> bool
-    requires { ⌜ 103 ≤ length (now s) ⌝ }
+    requires { ⌜ clockAt ≤ length (now s) ⌝ }
     ensures { λ r. ⌜ r ≡ headKept (now (s .entry)) ⌝ }
 {
     if s[MARK_AT] != TABLE_MARK {
@@ -103,7 +100,7 @@ fn kinds_ok(s: &[u32]) -> bool
     ensures { λ r. ⌜ r ≡ kindsKept (now (s .entry)) ⌝ }
 {
     let end = KINDS_AT + words_tags::wide(s[OBJECTS_AT]);
-    if all_in_range(&s[KINDS_AT..end], 1, GREATEST_KIND) {
+    if all_in_range(&s[KINDS_AT..end], 1, meaning::GREATEST_KIND) {
         return table_rules_rows::all_zero(&s[end..TOTALS_AT]);
     }
     false

@@ -13,26 +13,26 @@ use lib.Dec.{leb, ltb, eqb}
 use lib.IntN.{pos, negsuc}
 use lib.ListN.{length, getD, take, drop, drop-of-length-le}
 use lib.Seq.{drop-cons}
-use Rattle.meaning.specs.Order.{Vector, atMost}
-use Rattle.meaning.specs.Operations.{isCounter}
-use Rattle.meaning.specs.Table.{sumOfEntries, totalBound, isNegative}
+use Rattle.meaning.specs.Order.{Vector, atMost, entryLimit}
+use Rattle.meaning.specs.Operations.{isCounter, greatestAmount}
+use Rattle.meaning.specs.Table.{sumOfEntries, totalBound, isNegative, greatestSize}
 use Rattle.meaning.proofs.Tests.{iff, cases}
-use Rattle.words_layout.specs.Words.{allZero, ofComplement, ofTwoWords}
+use Rattle.words_layout.specs.Words.{allZero, ofComplement, ofTwoWords, wordLimit}
 use Rattle.table_rules_clock.specs.ClockTests.{totalKept, totalKeptAt, lastKept}
 use Rattle.table_rules_rows.proofs.Scanning.{Passed, piece-fails, piece-holds}
 
 -- the sum: what is added and the sum of the rest make the sum of all
 pub record Summed (clock : Vector) (sum i : ℕ) : Type 0 where
-  pub few : length clock ≤ 16
+  pub few : length clock ≤ greatestSize
   pub within : i ≤ length clock
-  pub bounded : sum ≤ i * 4294967296
+  pub bounded : sum ≤ i * entryLimit
   pub whole : sum + sumOfEntries (drop i clock) ≡ sumOfEntries clock
 
-pub sum-start : (clock : Vector) → length clock ≤ 16 → Summed clock 0 0
+pub sum-start : (clock : Vector) → length clock ≤ greatestSize → Summed clock 0 0
 sum-start clock h = record { few = h; within = omega arith; bounded = omega arith; whole = omega arith }
 
 module _ (clock : Vector) (sum i : ℕ) (S : Summed clock sum i) where
-  module _ (h : i < length clock) (x : ℕ) (b : x < 4294967296) where
+  module _ (h : i < length clock) (x : ℕ) (b : x < entryLimit) where
     pub sum-fits : Fits w64 (sum + x)
     sum-fits = omega (arith, S .bounded, S .few)
 
@@ -48,7 +48,7 @@ module _ (clock : Vector) (sum i : ℕ) (S : Summed clock sum i) where
   pub sum-bounded : sum ≤ 68719476736
   sum-bounded = omega (arith, S .bounded, S .few, S .within)
 
-pub bound-there : (clock : Vector) (sum : ℕ) → sum ≡ sumOfEntries clock → 1000000 * sum ≡ totalBound clock
+pub bound-there : (clock : Vector) (sum : ℕ) → sum ≡ sumOfEntries clock → greatestAmount * sum ≡ totalBound clock
 unfolding totalBound
 bound-there clock sum e = rw e refl
 
@@ -117,6 +117,6 @@ module _ (own station : ℕ) (clock vector : Vector) where
 
 -- a station's place is a word: as many vectors of as many entries as there are stations have room
 pub station-fits : (s : List ℕ) (n k : ℕ) → k < n → n * n ≤ length s → length s * 4 < 9223372036854775808 → Fits w32 k
-station-fits s n k h room b = cases (ltb k 4294967296)
-    (λ e. let small = ltb-true k 4294967296 e in omega (arith, small))
-    (λ e. let high : 4294967296 ≤ n = omega (arith, ltb-false k 4294967296 e) in absurd (omega (arith, mul-le-mul high high)))
+station-fits s n k h room b = cases (ltb k wordLimit)
+    (λ e. let small = ltb-true k wordLimit e in omega (arith, small))
+    (λ e. let high : wordLimit ≤ n = omega (arith, ltb-false k wordLimit e) in absurd (omega (arith, mul-le-mul high high)))

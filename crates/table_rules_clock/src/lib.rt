@@ -3,7 +3,7 @@ ghost use mathlib.Core.Path.{_≡_};
 ghost use Prim.Native.Nat.{_*_, _≤_, _<_};
 ghost use lib.ListN.{length, getD};
 ghost use Rattle.meaning.specs.Tests.{everyAt};
-ghost use Rattle.meaning.specs.Table.{sumOfEntries, totalBound};
+ghost use Rattle.meaning.specs.Table.{sumOfEntries, totalBound, greatestSize};
 ghost use Rattle.words_layout.specs.Words.{ofComplement, ofTwoWords, pieces, wordLimit};
 ghost use Rattle.table_rules_clock.specs.ClockTests.{lastKept, totalKept, totalKeptAt};
 use table_kinds::GROW_COUNTER;
@@ -11,9 +11,9 @@ use table_kinds::UP_DOWN_COUNTER;
 use words_layout::TOTAL_WORDS;
 use words_tags::Station;
 
-const GREATEST_AMOUNT: u64 = 1000000;
+const GREATEST_AMOUNT: u64 = meaning::GREATEST_AMOUNT as u64;
 
-const WORD_LIMIT: u64 = 4294967296;
+const WORD_LIMIT: u64 = u32::MAX as u64 + 1;
 
 // The first code of a negative total in two's complement, and the last, which is -1.
 const NEGATIVE_FROM: u64 = 9223372036854775808;
@@ -21,9 +21,9 @@ const NEGATIVE_FROM: u64 = 9223372036854775808;
 const GREATEST_CODE: u64 = 18446744073709551615;
 
 // Where the words of a total stand.
-const HIGH_AT: usize = 0;
+const TOTAL_HIGH_AT: usize = 0;
 
-const LOW_AT: usize = 1;
+const TOTAL_LOW_AT: usize = 1;
 
 // A word as a longer number, with its bound, so that no caller has to show that it fits.
 fn long(x: u32) -> u64
@@ -34,8 +34,8 @@ fn long(x: u32) -> u64
 
 // The sum of a clock's entries.
 fn sum_of(clock: &[u32]) -> u64
-    requires { ⌜ length (now clock) ≤ 16 ⌝ }
-    ensures { λ r. ⌜ (r ≡ sumOfEntries (now (clock .entry))) × (r ≤ 16 * wordLimit) ⌝ }
+    requires { ⌜ length (now clock) ≤ greatestSize ⌝ }
+    ensures { λ r. ⌜ (r ≡ sumOfEntries (now (clock .entry))) × (r ≤ greatestSize * wordLimit) ⌝ }
 {
     let mut sum: u64 = 0;
     let mut i = 0;
@@ -48,7 +48,7 @@ fn sum_of(clock: &[u32]) -> u64
 
 // How far from zero a total may lie.
 pub fn total_bound(clock: &[u32]) -> u64
-    requires { ⌜ length (now clock) ≤ 16 ⌝ }
+    requires { ⌜ length (now clock) ≤ greatestSize ⌝ }
     ensures { λ r. ⌜ r ≡ totalBound (now (clock .entry)) ⌝ }
 {
     GREATEST_AMOUNT * sum_of(clock)
@@ -59,7 +59,7 @@ pub fn code_of(words: &[u32]) -> u64
     requires { ⌜ length (now words) ≡ 2 ⌝ }
     ensures { λ r. ⌜ r ≡ ofTwoWords (getD (now (words .entry)) 0 0) (getD (now (words .entry)) 1 0) ⌝ }
 {
-    long(words[HIGH_AT]) * WORD_LIMIT + long(words[LOW_AT])
+    long(words[TOTAL_HIGH_AT]) * WORD_LIMIT + long(words[TOTAL_LOW_AT])
 }
 
 // Whether an object of this kind may have the total of this code.

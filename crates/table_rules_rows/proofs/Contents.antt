@@ -9,12 +9,13 @@ use mir.Val.{Fits}
 use mir.Syntax.{w32}
 use lib.Dec.{eqb, ltb}
 use lib.ListN.{length, getD, List·getD-eq-default}
-use Rattle.meaning.specs.Operations.{Operation, isCounter, isFlag, codesOf, codeAllowed, valueAllowed}
+use Rattle.meaning.specs.Operations.{Operation, isCounter, isFlag, codesOf, codeAllowed, valueAllowed, valueLimit}
 use Rattle.meaning.specs.Arrival.{getsRow}
 use Rattle.meaning.specs.Table.{storable}
 use Rattle.meaning.proofs.Tests.{cases, and-left, and-right, not-holds}
 use Rattle.words_layout.specs.Layout.{rowOf}
 use Rattle.table_rules_rows.specs.RowTests.{contentKept}
+use Rattle.words_layout.specs.Words.{wordLimit}
 
 -- a fact of each kind that keeps rows
 pub by-kind : (P : ℕ → Type 0) → P 3 → P 4 → P 5 → P 6 → P 7 → P 8 → P 9 → (k : ℕ) → 3 ≤ k → k ≤ 9 → P k
@@ -85,7 +86,7 @@ stored-facts kind u e =
     let h = and-right known (not three && fewer) (and-right (not (isCounter kind)) (known && (not three && fewer)) e) in
     (not-holds (isCounter kind) (and-left (not (isCounter kind)) (known && (not three && fewer)) e), not-holds three (and-left (not three) fewer h))
 
-stored-value : (kind : ℕ) (u : Operation) → storable kind u ≡ true → contentKept kind u ≡ cond (isFlag kind) (eqb (u .value) 0) (ltb (u .value) 4294967296)
+stored-value : (kind : ℕ) (u : Operation) → storable kind u ≡ true → contentKept kind u ≡ cond (isFlag kind) (eqb (u .value) 0) (ltb (u .value) valueLimit)
 unfolding contentKept valueAllowed
 stored-value kind u e =
     let f = stored-facts kind u e in
@@ -103,17 +104,17 @@ module _ (kind : ℕ) (row : List ℕ) (r : Bool) (s : r ≡ storable kind (rowO
     abbrev low : ℕ
     low = getD row 2 0
 
-    valued : contentKept kind (rowOf row .operation) ≡ cond (isFlag kind) (eqb (high * 4294967296 + low) 0) (ltb (high * 4294967296 + low) 4294967296)
+    valued : contentKept kind (rowOf row .operation) ≡ cond (isFlag kind) (eqb (high * wordLimit + low) 0) (ltb (high * wordLimit + low) valueLimit)
     valued = stored-value kind (rowOf row .operation) (sym s ∙ e)
 
     pub content-high : (high ≡ 0 → ⊥) → false ≡ contentKept kind (rowOf row .operation)
     content-high h =
         sym (valued ∙ cases (isFlag kind)
-        (λ g. rw g (ne-eqb (high * 4294967296 + low) 0 (λ z. h (omega arith))))
-        (λ g. rw g (le-ltb (high * 4294967296 + low) 4294967296 (omega arith))))
+        (λ g. rw g (ne-eqb (high * wordLimit + low) 0 (λ z. h (omega arith))))
+        (λ g. rw g (le-ltb (high * wordLimit + low) valueLimit (omega arith))))
 
     flag-low : high ≡ 0 → isFlag kind ≡ true → eqb low 0 ≡ contentKept kind (rowOf row .operation)
-    flag-low h g = let q : high * 4294967296 + low ≡ low = omega arith in sym (valued ∙ rw (g, q) refl)
+    flag-low h g = let q : high * wordLimit + low ≡ low = omega arith in sym (valued ∙ rw (g, q) refl)
 
     pub content-enabled : high ≡ 0 → kind ≡ 5 → eqb low 0 ≡ contentKept kind (rowOf row .operation)
     unfolding isFlag
@@ -125,4 +126,4 @@ module _ (kind : ℕ) (row : List ℕ) (r : Bool) (s : r ≡ storable kind (rowO
 
     pub content-word : high ≡ 0 → (kind ≡ 5 → ⊥) → (kind ≡ 6 → ⊥) → true ≡ contentKept kind (rowOf row .operation)
     unfolding isFlag
-    content-word h a b = let q : high * 4294967296 + low ≡ low = omega arith in sym (valued ∙ rw (ne-eqb kind 5 a, ne-eqb kind 6 b, q) (lt-ltb low 4294967296 (omega (arith, known 2))))
+    content-word h a b = let q : high * wordLimit + low ≡ low = omega arith in sym (valued ∙ rw (ne-eqb kind 5 a, ne-eqb kind 6 b, q) (lt-ltb low valueLimit (omega (arith, known 2))))

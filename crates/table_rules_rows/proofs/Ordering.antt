@@ -22,20 +22,21 @@ use Rattle.words_layout.specs.Layout.{rowOf, rowWords}
 use Rattle.words_layout.proofs.Pieces.{Each}
 use Rattle.words_layout.proofs.Spelling.{seven}
 use Rattle.table_rules_rows.specs.RowTests.{follows, chained}
+use Rattle.words_layout.specs.Words.{wordLimit}
 
 -- words from which a row can be read and written back
 pub record Readable (n : ℕ) (ws : List ℕ) : Type 0 where
   pub long : 7 ≤ length ws
-  pub low : getD ws 2 0 < 4294967296
+  pub low : getD ws 2 0 < wordLimit
   pub written : rowWords n (rowOf ws) ≡ ws
 
 -- a number in two words is compared by its words
-module _ (h l h′ l′ : ℕ) (p q : List ℕ) (f : l < 4294967296) (g : l′ < 4294967296) where
+module _ (h l h′ l′ : ℕ) (p q : List ℕ) (f : l < wordLimit) (g : l′ < wordLimit) where
   abbrev value : ℕ
-  value = h * 4294967296 + l
+  value = h * wordLimit + l
 
   abbrev value′ : ℕ
-  value′ = h′ * 4294967296 + l′
+  value′ = h′ * wordLimit + l′
 
   two-words : lowerKey (h ∷ l ∷ p) (h′ ∷ l′ ∷ q) ≡ lowerKey (value ∷ p) (value′ ∷ q)
   two-words = iff (lowerKey (h ∷ l ∷ p) (h′ ∷ l′ ∷ q)) (lowerKey (value ∷ p) (value′ ∷ q))
@@ -58,7 +59,7 @@ abbrev tailOf : Row → List ℕ
 tailOf row = row .operation .code ∷ cond (row .settled) 0 1 ∷ row .operation .sender ∷ numberOf (row .operation) ∷ []
 
 -- the key of a row, from its words
-key-read : (n : ℕ) (a : List ℕ) → Readable n a → keyOf (rowOf a) ≡ getD a 0 0 ∷ (getD a 1 0 * 4294967296 + getD a 2 0) ∷ getD a 3 0 ∷ getD a 4 0 ∷ getD a 5 0 ∷ getD a 6 0 ∷ []
+key-read : (n : ℕ) (a : List ℕ) → Readable n a → keyOf (rowOf a) ≡ getD a 0 0 ∷ (getD a 1 0 * wordLimit + getD a 2 0) ∷ getD a 3 0 ∷ getD a 4 0 ∷ getD a 5 0 ∷ getD a 6 0 ∷ []
 unfolding keyOf
 key-read n a R =
     let word : cond (eqb (getD a 4 0) 0) 0 1 ≡ getD a 4 0 = ap (λ (l : List ℕ). getD l 4 0) (R .written) in
@@ -69,14 +70,14 @@ three : (c : List ℕ) → 7 ≤ length c → take 3 c ≡ getD c 0 0 ∷ getD c
 three c h = sym (take-take 3 7 c (omega arith)) ∙ ap (take 3) (seven c h)
 
 -- the first three words of two rows tell whether they are of one object and value
-pub same-words : (a b : List ℕ) → 7 ≤ length a → 7 ≤ length b → getD a 2 0 < 4294967296 → getD b 2 0 < 4294967296 → same (take 3 a) (take 3 b) ≡ sameValue (rowOf a .operation) (rowOf b)
+pub same-words : (a b : List ℕ) → 7 ≤ length a → 7 ≤ length b → getD a 2 0 < wordLimit → getD b 2 0 < wordLimit → same (take 3 a) (take 3 b) ≡ sameValue (rowOf a .operation) (rowOf b)
 unfolding sameValue on
 same-words a b la lb fa fb =
     let o = eqb (getD a 0 0) (getD b 0 0) in
     let h = eqb (getD a 1 0) (getD b 1 0) in
     let l = eqb (getD a 2 0) (getD b 2 0) in
-    let u = getD a 1 0 * 4294967296 + getD a 2 0 in
-    let v = getD b 1 0 * 4294967296 + getD b 2 0 in
+    let u = getD a 1 0 * wordLimit + getD a 2 0 in
+    let v = getD b 1 0 * wordLimit + getD b 2 0 in
     rw (three a la, three b lb) (iff (o && (h && (l && true))) (eqb (getD b 0 0) (getD a 0 0) && eqb v u)
     (λ e.
     let r = and-right o (h && (l && true)) e in

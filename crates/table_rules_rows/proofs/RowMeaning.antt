@@ -12,7 +12,7 @@ use Rattle.meaning.specs.Order.{Vector, atMost}
 use Rattle.meaning.specs.Operations.{numberOf, valueAllowed}
 use Rattle.meaning.specs.Table.{Table, kindIn, storable, settledOnly, tagRule, rowRule}
 use Rattle.meaning.proofs.Tests.{cases, and-left, and-right, not-holds}
-use Rattle.words_layout.specs.Words.{allZero, padded}
+use Rattle.words_layout.specs.Words.{allZero, padded, wordLimit}
 use Rattle.words_layout.specs.Layout.{rowOf, rowWords}
 use Rattle.words_layout.proofs.RowWords.{Spelt}
 use Rattle.table_rules_rows.specs.RowTests.{contentKept, numberKept, unsettledKept, tagKept, rowKept}
@@ -93,7 +93,7 @@ module _ (kinds clock row : List ℕ) (k : rowKept kinds clock row ≡ true) whe
         (eqb-true word 1 (and-left a (b && c) u), and-left b c r, number-out (getD row 6 0) (getD row 5 0) (drop 7 row) (and-right b c r))
 
   -- its words are what would be written for it
-  pub kept-spelt : (n : ℕ) → length row ≡ 7 + n → getD row 2 0 < 4294967296 → Spelt n row
+  pub kept-spelt : (n : ℕ) → length row ≡ 7 + n → getD row 2 0 < wordLimit → Spelt n row
   kept-spelt n w f = cases (eqb word 0)
       (λ e.
       let z = eqb-true word 0 e in

@@ -22,13 +22,12 @@ use words_layout::LOW_AT;
 use words_layout::NUMBER_AT;
 use words_layout::OBJECT_AT;
 use words_layout::TAG_AT;
+use words_layout::UNSETTLED;
 use words_layout::UNSETTLED_AT;
 use words_layout::VECTOR_AT;
 use words_tags::Number;
 use words_tags::RowCount;
 use words_tags::Station;
-
-const UNSETTLED: u32 = 1;
 
 // Whether all words are 0; it notes a fault and never leaves early, so that it runs over many words at a time.
 pub fn all_zero(words: &[u32]) -> bool

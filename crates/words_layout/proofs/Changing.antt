@@ -10,10 +10,10 @@ use lib.Dec.{eqb, ltb}
 use lib.IntN.{ℤ, pos, negsuc}
 use lib.ListN.{length, getD, take, drop, set, replicate, length-append, length-set, length-map, length-drop, length-replicate}
 use lib.Seq.{take-at, drop-at, drop-drop, take-add, length-take-le}
-use Rattle.meaning.specs.Table.{Table}
+use Rattle.meaning.specs.Table.{Table, greatestSize, greatestCapacity, mostObjects}
 use Rattle.meaning.proofs.Tests.{cases}
-use Rattle.words_layout.specs.Words.{complement, ofComplement, pieces, flat, padded}
-use Rattle.words_layout.specs.Layout.{Laid, headWords, totalWords, totalOfWords, totalsWords, rowWords, rowOf, frontWords, rowsWords, wordsOf, tableOf, rewritten, beyond, spaceFor, rowsAt, rowsIn, sizeIn, objectsIn, countIn, withClock, withLast, withTotals}
+use Rattle.words_layout.specs.Words.{complement, ofComplement, pieces, flat, padded, wordLimit}
+use Rattle.words_layout.specs.Layout.{Laid, headWords, totalWords, totalOfWords, totalsWords, rowWords, rowOf, frontWords, rowsWords, wordsOf, tableOf, rewritten, beyond, spaceFor, rowsAt, rowsIn, sizeIn, objectsIn, countIn, withClock, withLast, withTotals, clockAt, totalsAt, totalsWidth}
 use Rattle.words_layout.proofs.Pieces.{Wide, Each, length-pieces, length-flat, pieces-at}
 use Rattle.words_layout.proofs.RowWords.{Shaped}
 use Rattle.words_layout.proofs.Whole.{fit, length-padded, totals-long, wide-totals, rows-wide, wide-rows, length-front, back-each}
@@ -33,16 +33,16 @@ code-fits (negsuc n) = omega arith
 
 in-range : (l : List ℤ) → Each (λ (z : ℤ). totalOfWords (totalWords z) ≡ z) l → Each InRange l
 in-range [] h = tt
-in-range (z ∷ l) h = (subst InRange (h .0) (rw (div-add-mod' (complement z) 4294967296) (read-in-range (complement z) (code-fits z))), in-range l (h .1))
+in-range (z ∷ l) h = (subst InRange (h .0) (rw (div-add-mod' (complement z) wordLimit) (read-in-range (complement z) (code-fits z))), in-range l (h .1))
 
 shaped : (n : ℕ) (l : List (List ℕ)) → Wide (7 + n) l → Each (Shaped n) (map rowOf l)
 shaped n [] h = tt
 shaped n (ws ∷ l) h = (record { long = elim (eqb (getD ws 4 0) 0) as (λ b. length (cond b [] (drop 7 ws)) ≡ cond b 0 n) [ true ↦ refl | false ↦ simp length-drop (omega (arith, h .0)) ] }, shaped n l (h .1))
 
 -- the words of a table, part by part
-pub spread : (t : Table) (x : List ℕ) → wordsOf t ++ x ≡ headWords t ++ (padded 32 (t .header .kinds) ++ (padded 64 (totalsWords (t .totals)) ++ (t .clock ++ (flat (t .last) ++ (rowsWords t ++ x)))))
+pub spread : (t : Table) (x : List ℕ) → wordsOf t ++ x ≡ headWords t ++ (padded mostObjects (t .header .kinds) ++ (padded totalsWidth (totalsWords (t .totals)) ++ (t .clock ++ (flat (t .last) ++ (rowsWords t ++ x)))))
 unfolding wordsOf
-spread t x = in-a-row (headWords t) (padded 32 (t .header .kinds)) (padded 64 (totalsWords (t .totals))) (t .clock) (flat (t .last)) (rowsWords t) x
+spread t x = in-a-row (headWords t) (padded mostObjects (t .header .kinds)) (padded totalsWidth (totalsWords (t .totals))) (t .clock) (flat (t .last)) (rowsWords t) x
 
 regroup : (h k t r : List ℕ) → h ++ (k ++ (t ++ r)) ≡ (h ++ (k ++ t)) ++ r
 regroup h k t r = sym (append-assoc h (k ++ t) r ∙ ap (λ (l : List ℕ). h ++ l) (append-assoc k t r))
@@ -82,30 +82,30 @@ module _ (s : List ℕ) (T : Laid s) where
   unfolding tableOf
   size-is = refl
 
-  parts : s ≡ headWords (tableOf s) ++ (padded 32 (tableOf s .header .kinds) ++ (padded 64 (totalsWords (tableOf s .totals)) ++ (tableOf s .clock ++ (flat (tableOf s .last) ++ (rowsWords (tableOf s) ++ beyond s)))))
+  parts : s ≡ headWords (tableOf s) ++ (padded mostObjects (tableOf s .header .kinds) ++ (padded totalsWidth (totalsWords (tableOf s .totals)) ++ (tableOf s .clock ++ (flat (tableOf s .last) ++ (rowsWords (tableOf s) ++ beyond s)))))
   unfolding rewritten
   parts = T .spelt ∙ spread (tableOf s) (beyond s)
 
-  kinds-long : length (padded 32 (tableOf s .header .kinds)) ≡ 32
-  kinds-long = length-padded 32 (tableOf s .header .kinds) (fit s T .few-kinds)
+  kinds-long : length (padded mostObjects (tableOf s .header .kinds)) ≡ mostObjects
+  kinds-long = length-padded mostObjects (tableOf s .header .kinds) (fit s T .few-kinds)
 
   -- the kinds' words, zeros behind them
-  pub kinds-are : take 32 (drop 7 s) ≡ padded 32 (tableOf s .header .kinds)
-  kinds-are = ap (λ (l : List ℕ). take 32 (drop 7 l)) parts ∙ take-at (padded 32 (tableOf s .header .kinds)) _ 32 kinds-long
+  pub kinds-are : take mostObjects (drop 7 s) ≡ padded mostObjects (tableOf s .header .kinds)
+  kinds-are = ap (λ (l : List ℕ). take mostObjects (drop 7 l)) parts ∙ take-at (padded mostObjects (tableOf s .header .kinds)) _ mostObjects kinds-long
 
-  totals-are-long : length (padded 64 (totalsWords (tableOf s .totals))) ≡ 64
-  totals-are-long = length-padded 64 (totalsWords (tableOf s .totals)) (totals-long (tableOf s .totals) (fit s T .few-totals))
+  totals-are-long : length (padded totalsWidth (totalsWords (tableOf s .totals))) ≡ totalsWidth
+  totals-are-long = length-padded totalsWidth (totalsWords (tableOf s .totals)) (totals-long (tableOf s .totals) (fit s T .few-totals))
 
   totals-many : length (tableOf s .totals) ≡ objectsIn s
   unfolding tableOf
-  totals-many = length-map (pieces 2 (objectsIn s) (drop 39 s)) totalOfWords ∙ length-pieces 2 (objectsIn s) (drop 39 s)
+  totals-many = length-map (pieces 2 (objectsIn s) (drop totalsAt s)) totalOfWords ∙ length-pieces 2 (objectsIn s) (drop totalsAt s)
 
   -- every total is what its words spell
-  totals-spelt : map totalWords (tableOf s .totals) ≡ pieces 2 (objectsIn s) (drop 39 s)
+  totals-spelt : map totalWords (tableOf s .totals) ≡ pieces 2 (objectsIn s) (drop totalsAt s)
   totals-spelt =
-      let rest = replicate (64 - length (totalsWords (tableOf s .totals))) 0 ++ (tableOf s .clock ++ (flat (tableOf s .last) ++ (rowsWords (tableOf s) ++ beyond s))) in
-      let at : drop 39 s ≡ totalsWords (tableOf s .totals) ++ rest =
-      ap (drop 39) parts ∙ drop-at (padded 32 (tableOf s .header .kinds)) _ 32 kinds-long ∙ append-assoc (totalsWords (tableOf s .totals)) _ _ in
+      let rest = replicate (totalsWidth - length (totalsWords (tableOf s .totals))) 0 ++ (tableOf s .clock ++ (flat (tableOf s .last) ++ (rowsWords (tableOf s) ++ beyond s))) in
+      let at : drop totalsAt s ≡ totalsWords (tableOf s .totals) ++ rest =
+      ap (drop totalsAt) parts ∙ drop-at (padded mostObjects (tableOf s .header .kinds)) _ mostObjects kinds-long ∙ append-assoc (totalsWords (tableOf s .totals)) _ _ in
       sym (ap (pieces 2 (objectsIn s)) at ∙ pieces-at 2 (objectsIn s) (map totalWords (tableOf s .totals)) rest (wide-totals (tableOf s .totals)) (length-map (tableOf s .totals) totalWords ∙ totals-many))
 
   totals-back : map totalOfWords (map totalWords (tableOf s .totals)) ≡ tableOf s .totals
@@ -122,68 +122,68 @@ module _ (s : List ℕ) (T : Laid s) where
   }
 
   -- D where it stands
-  pub put-clock : (d : List ℕ) → take 103 s ++ (d ++ drop (sizeIn s) (drop 103 s)) ≡ rewritten s (withClock (tableOf s) d)
+  pub put-clock : (d : List ℕ) → take clockAt s ++ (d ++ drop (sizeIn s) (drop clockAt s)) ≡ rewritten s (withClock (tableOf s) d)
   unfolding rewritten
   put-clock d =
       let t = tableOf s in
-      let front = headWords t ++ (padded 32 (t .header .kinds) ++ padded 64 (totalsWords (t .totals))) in
+      let front = headWords t ++ (padded mostObjects (t .header .kinds) ++ padded totalsWidth (totalsWords (t .totals))) in
       let after = flat (t .last) ++ (rowsWords t ++ beyond s) in
-      let long : length front ≡ 103 = omega (arith, kinds-long, totals-are-long, length-append (padded 32 (t .header .kinds)) (padded 64 (totalsWords (t .totals)))) in
-      let all : s ≡ front ++ (t .clock ++ after) = parts ∙ regroup (headWords t) (padded 32 (t .header .kinds)) (padded 64 (totalsWords (t .totals))) (t .clock ++ after) in
-      ap (λ (l : List ℕ). take 103 l ++ (d ++ drop (sizeIn s) (drop 103 l))) all
-      ∙ put-part front (t .clock) after d 103 (sizeIn s) long (fit s T .clock-long ∙ size-is)
-      ∙ sym (regroup (headWords t) (padded 32 (t .header .kinds)) (padded 64 (totalsWords (t .totals))) (d ++ after))
+      let long : length front ≡ clockAt = omega (arith, kinds-long, totals-are-long, length-append (padded mostObjects (t .header .kinds)) (padded totalsWidth (totalsWords (t .totals)))) in
+      let all : s ≡ front ++ (t .clock ++ after) = parts ∙ regroup (headWords t) (padded mostObjects (t .header .kinds)) (padded totalsWidth (totalsWords (t .totals))) (t .clock ++ after) in
+      ap (λ (l : List ℕ). take clockAt l ++ (d ++ drop (sizeIn s) (drop clockAt l))) all
+      ∙ put-part front (t .clock) after d clockAt (sizeIn s) long (fit s T .clock-long ∙ size-is)
+      ∙ sym (regroup (headWords t) (padded mostObjects (t .header .kinds)) (padded totalsWidth (totalsWords (t .totals))) (d ++ after))
       ∙ sym (spread (withClock t d) (beyond s))
 
   -- L[k] where it stands
-  pub put-last : (k : ℕ) (v : List ℕ) → k < sizeIn s → take (103 + sizeIn s + k * sizeIn s) s ++ (v ++ drop (sizeIn s) (drop (103 + sizeIn s + k * sizeIn s) s)) ≡ rewritten s (withLast (tableOf s) (set (tableOf s .last) k v))
+  pub put-last : (k : ℕ) (v : List ℕ) → k < sizeIn s → take (clockAt + sizeIn s + k * sizeIn s) s ++ (v ++ drop (sizeIn s) (drop (clockAt + sizeIn s + k * sizeIn s) s)) ≡ rewritten s (withLast (tableOf s) (set (tableOf s .last) k v))
   unfolding rewritten
   put-last k v h =
       let t = tableOf s in
       let n = sizeIn s in
-      let front = (headWords t ++ (padded 32 (t .header .kinds) ++ padded 64 (totalsWords (t .totals)))) ++ t .clock in
+      let front = (headWords t ++ (padded mostObjects (t .header .kinds) ++ padded totalsWidth (totalsWords (t .totals)))) ++ t .clock in
       let after = rowsWords t ++ beyond s in
-      let long : length front ≡ 103 + n = omega (arith, kinds-long, totals-are-long, fit s T .clock-long ∙ size-is, length-append (padded 32 (t .header .kinds)) (padded 64 (totalsWords (t .totals))), length-append (headWords t ++ (padded 32 (t .header .kinds) ++ padded 64 (totalsWords (t .totals)))) (t .clock)) in
-      let to-front : (c r : List ℕ) → headWords t ++ (padded 32 (t .header .kinds) ++ (padded 64 (totalsWords (t .totals)) ++ (c ++ r))) ≡ ((headWords t ++ (padded 32 (t .header .kinds) ++ padded 64 (totalsWords (t .totals)))) ++ c) ++ r =
-      λ c r. regroup (headWords t) (padded 32 (t .header .kinds)) (padded 64 (totalsWords (t .totals))) (c ++ r) ∙ sym (append-assoc (headWords t ++ (padded 32 (t .header .kinds) ++ padded 64 (totalsWords (t .totals)))) c r) in
+      let long : length front ≡ clockAt + n = omega (arith, kinds-long, totals-are-long, fit s T .clock-long ∙ size-is, length-append (padded mostObjects (t .header .kinds)) (padded totalsWidth (totalsWords (t .totals))), length-append (headWords t ++ (padded mostObjects (t .header .kinds) ++ padded totalsWidth (totalsWords (t .totals)))) (t .clock)) in
+      let to-front : (c r : List ℕ) → headWords t ++ (padded mostObjects (t .header .kinds) ++ (padded totalsWidth (totalsWords (t .totals)) ++ (c ++ r))) ≡ ((headWords t ++ (padded mostObjects (t .header .kinds) ++ padded totalsWidth (totalsWords (t .totals)))) ++ c) ++ r =
+      λ c r. regroup (headWords t) (padded mostObjects (t .header .kinds)) (padded totalsWidth (totalsWords (t .totals))) (c ++ r) ∙ sym (append-assoc (headWords t ++ (padded mostObjects (t .header .kinds) ++ padded totalsWidth (totalsWords (t .totals)))) c r) in
       let all : s ≡ front ++ (flat (t .last) ++ after) = parts ∙ to-front (t .clock) (flat (t .last) ++ after) in
       let wide : Wide n (t .last) = subst (λ (m : ℕ). Wide m (t .last)) size-is (fit s T .last-wide) in
       let many : k < length (t .last) = let e = fit s T .last-many in let f = size-is in omega arith in
-      ap (λ (l : List ℕ). take (103 + n + k * n) l ++ (v ++ drop n (drop (103 + n + k * n) l))) all
-      ∙ put-behind front (flat (t .last) ++ after) v (103 + n) (k * n) n long
+      ap (λ (l : List ℕ). take (clockAt + n + k * n) l ++ (v ++ drop n (drop (clockAt + n + k * n) l))) all
+      ∙ put-behind front (flat (t .last) ++ after) v (clockAt + n) (k * n) n long
       ∙ ap (λ (l : List ℕ). front ++ l) (put-piece n k (t .last) v after wide many)
       ∙ sym (to-front (t .clock) (flat (set (t .last) k v) ++ after))
       ∙ sym (spread (withLast t (set (t .last) k v)) (beyond s))
 
   -- a total where it stands
-  pub put-total : (o : ℕ) (z : ℤ) → o < objectsIn s → take (39 + o * 2) s ++ (totalWords z ++ drop 2 (drop (39 + o * 2) s)) ≡ rewritten s (withTotals (tableOf s) (set (tableOf s .totals) o z))
+  pub put-total : (o : ℕ) (z : ℤ) → o < objectsIn s → take (totalsAt + o * 2) s ++ (totalWords z ++ drop 2 (drop (totalsAt + o * 2) s)) ≡ rewritten s (withTotals (tableOf s) (set (tableOf s .totals) o z))
   unfolding rewritten
   put-total o z h =
       let t = tableOf s in
-      let front = headWords t ++ padded 32 (t .header .kinds) in
+      let front = headWords t ++ padded mostObjects (t .header .kinds) in
       let rest = t .clock ++ (flat (t .last) ++ (rowsWords t ++ beyond s)) in
-      let zeros : List ℕ = replicate (64 - length (totalsWords (t .totals))) 0 in
-      let long : length front ≡ 39 = omega (arith, kinds-long) in
+      let zeros : List ℕ = replicate (totalsWidth - length (totalsWords (t .totals))) 0 in
+      let long : length front ≡ totalsAt = omega (arith, kinds-long) in
       let all : s ≡ front ++ (totalsWords (t .totals) ++ (zeros ++ rest)) =
-      parts ∙ sym (append-assoc (headWords t) (padded 32 (t .header .kinds)) (padded 64 (totalsWords (t .totals)) ++ rest)) ∙ ap (λ (l : List ℕ). front ++ l) (append-assoc (totalsWords (t .totals)) zeros rest) in
+      parts ∙ sym (append-assoc (headWords t) (padded mostObjects (t .header .kinds)) (padded totalsWidth (totalsWords (t .totals)) ++ rest)) ∙ ap (λ (l : List ℕ). front ++ l) (append-assoc (totalsWords (t .totals)) zeros rest) in
       let many : o < length (map totalWords (t .totals)) = rw (length-map (t .totals) totalWords, totals-many) h in
       let same : length (flat (set (map totalWords (t .totals)) o (totalWords z))) ≡ length (totalsWords (t .totals)) =
       length-flat 2 (set (map totalWords (t .totals)) o (totalWords z)) (wide-set 2 (map totalWords (t .totals)) o (totalWords z) refl (wide-totals (t .totals)))
       ∙ rw (length-set (map totalWords (t .totals)) o (totalWords z)) (sym (length-flat 2 (map totalWords (t .totals)) (wide-totals (t .totals)))) in
-      ap (λ (l : List ℕ). take (39 + o * 2) l ++ (totalWords z ++ drop 2 (drop (39 + o * 2) l))) all
-      ∙ put-behind front (totalsWords (t .totals) ++ (zeros ++ rest)) (totalWords z) 39 (o * 2) 2 long
+      ap (λ (l : List ℕ). take (totalsAt + o * 2) l ++ (totalWords z ++ drop 2 (drop (totalsAt + o * 2) l))) all
+      ∙ put-behind front (totalsWords (t .totals) ++ (zeros ++ rest)) (totalWords z) totalsAt (o * 2) 2 long
       ∙ ap (λ (l : List ℕ). front ++ l) (put-piece 2 o (map totalWords (t .totals)) (totalWords z) (zeros ++ rest) (wide-totals (t .totals)) many)
       ∙ ap (λ (l : List ℕ). front ++ l) (sym (append-assoc (flat (set (map totalWords (t .totals)) o (totalWords z))) zeros rest)
-      ∙ ap (λ (m : ℕ). (flat (set (map totalWords (t .totals)) o (totalWords z)) ++ replicate (64 - m) 0) ++ rest) (sym same)
-      ∙ ap (λ (l : List (List ℕ)). padded 64 (flat l) ++ rest) (sym (map-set totalWords (t .totals) o z)))
-      ∙ append-assoc (headWords t) (padded 32 (t .header .kinds)) (padded 64 (totalsWords (set (t .totals) o z)) ++ rest)
+      ∙ ap (λ (m : ℕ). (flat (set (map totalWords (t .totals)) o (totalWords z)) ++ replicate (totalsWidth - m) 0) ++ rest) (sym same)
+      ∙ ap (λ (l : List (List ℕ)). padded totalsWidth (flat l) ++ rest) (sym (map-set totalWords (t .totals) o z)))
+      ∙ append-assoc (headWords t) (padded mostObjects (t .header .kinds)) (padded totalsWidth (totalsWords (set (t .totals) o z)) ++ rest)
       ∙ sym (spread (withTotals t (set (t .totals) o z)) (beyond s))
 
 -- the sizes of a table record
 pub record Sized (t : Table) : Type 0 where
   pub some : 1 ≤ t .header .size
-  pub few : t .header .size ≤ 16
-  pub small : t .header .capacity ≤ 512
+  pub few : t .header .size ≤ greatestSize
+  pub small : t .header .capacity ≤ greatestCapacity (t .header .size)
   pub within : length (t .rows) ≤ t .header .capacity
 
 pub sized : (s : List ℕ) → Laid s → Sized (tableOf s)

@@ -10,9 +10,9 @@ use lib.IntN.{ℤ, pos, negsuc}
 use lib.ListN.{length, take, drop, replicate, length-map}
 use lib.Seq.{take-at, drop-at, drop-drop, take-append-seam}
 use Rattle.meaning.specs.Rows.{Row}
-use Rattle.meaning.specs.Table.{Table}
-use Rattle.words_layout.specs.Words.{complement, ofComplement, pieces, flat, padded}
-use Rattle.words_layout.specs.Layout.{tableMark, totalWords, totalOfWords, totalsWords, rowWords, rowOf, rowsWords, wordsOf, tableOf, rowsAt}
+use Rattle.meaning.specs.Table.{Table, mostObjects}
+use Rattle.words_layout.specs.Words.{complement, ofComplement, pieces, flat, padded, wordLimit}
+use Rattle.words_layout.specs.Layout.{tableMark, totalWords, totalOfWords, totalsWords, rowWords, rowOf, rowsWords, wordsOf, tableOf, rowsAt, clockAt, totalsAt, totalsWidth}
 use Rattle.words_layout.proofs.Pieces.{Each, map-back, pieces-at, length-flat}
 use Rattle.words_layout.proofs.RowWords.{Shaped, row-read}
 use Rattle.words_layout.proofs.Whole.{Fit, length-padded, wide-totals, totals-long, wide-rows}
@@ -31,7 +31,7 @@ total-read (negsuc n) h =
     rw (e, le-ltb (18446744073709551615 - n) 9223372036854775808 (omega arith), b) refl
 
 two-read : (z : ℤ) → InRange z → totalOfWords (totalWords z) ≡ z
-two-read z h = rw (div-add-mod' (complement z) 4294967296) (total-read z h)
+two-read z h = rw (div-add-mod' (complement z) wordLimit) (total-read z h)
 
 totals-back : (l : List ℤ) → Each InRange l → Each (λ (z : ℤ). totalOfWords (totalWords z) ≡ z) l
 totals-back [] h = tt
@@ -62,24 +62,24 @@ module _ (t : Table) (W : Well t) (x : List ℕ) where
   head = tableMark ∷ t .header .size ∷ t .header .own ∷ t .header .capacity ∷ length (t .header .kinds) ∷ length (t .rows) ∷ 0 ∷ []
 
   abbrev words : List ℕ
-  words = head ++ (padded 32 (t .header .kinds) ++ (padded 64 (totalsWords (t .totals)) ++ (t .clock ++ (flat (t .last) ++ (rowsWords t ++ x)))))
+  words = head ++ (padded mostObjects (t .header .kinds) ++ (padded totalsWidth (totalsWords (t .totals)) ++ (t .clock ++ (flat (t .last) ++ (rowsWords t ++ x)))))
 
-  clock-at : drop 103 words ≡ t .clock ++ (flat (t .last) ++ (rowsWords t ++ x))
-  clock-at = drop-two (padded 32 (t .header .kinds)) (padded 64 (totalsWords (t .totals))) _ 32 64 (length-padded 32 (t .header .kinds) (W .fit .few-kinds)) (length-padded 64 (totalsWords (t .totals)) (totals-long (t .totals) (W .fit .few-totals)))
+  clock-at : drop clockAt words ≡ t .clock ++ (flat (t .last) ++ (rowsWords t ++ x))
+  clock-at = drop-two (padded mostObjects (t .header .kinds)) (padded totalsWidth (totalsWords (t .totals))) _ mostObjects totalsWidth (length-padded mostObjects (t .header .kinds) (W .fit .few-kinds)) (length-padded totalsWidth (totalsWords (t .totals)) (totals-long (t .totals) (W .fit .few-totals)))
 
-  lasts-at : drop (103 + t .header .size) words ≡ flat (t .last) ++ (rowsWords t ++ x)
-  lasts-at = sym (drop-drop (t .header .size) 103 words) ∙ rw clock-at (drop-at (t .clock) _ (t .header .size) (W .fit .clock-long))
+  lasts-at : drop (clockAt + t .header .size) words ≡ flat (t .last) ++ (rowsWords t ++ x)
+  lasts-at = sym (drop-drop (t .header .size) clockAt words) ∙ rw clock-at (drop-at (t .clock) _ (t .header .size) (W .fit .clock-long))
 
   rows-at : drop (rowsAt (t .header .size)) words ≡ rowsWords t ++ x
-  rows-at = sym (drop-drop (t .header .size * t .header .size) (103 + t .header .size) words) ∙ rw lasts-at (drop-at (flat (t .last)) _ (t .header .size * t .header .size) (length-flat (t .header .size) (t .last) (W .fit .last-wide) ∙ rw (W .fit .last-many) refl))
+  rows-at = sym (drop-drop (t .header .size * t .header .size) (clockAt + t .header .size) words) ∙ rw lasts-at (drop-at (flat (t .last)) _ (t .header .size * t .header .size) (length-flat (t .header .size) (t .last) (W .fit .last-wide) ∙ rw (W .fit .last-many) refl))
 
   kinds-read : take (length (t .header .kinds)) (drop 7 words) ≡ t .header .kinds
   kinds-read = rw append-assoc (take-append-seam (t .header .kinds) _)
 
-  totals-read : map totalOfWords (pieces 2 (length (t .header .kinds)) (drop 39 words)) ≡ t .totals
+  totals-read : map totalOfWords (pieces 2 (length (t .header .kinds)) (drop totalsAt words)) ≡ t .totals
   totals-read =
-      let at : drop 39 words ≡ totalsWords (t .totals) ++ (replicate (64 - length (totalsWords (t .totals))) 0 ++ (t .clock ++ (flat (t .last) ++ (rowsWords t ++ x)))) =
-      drop-at (padded 32 (t .header .kinds)) _ 32 (length-padded 32 (t .header .kinds) (W .fit .few-kinds)) ∙ append-assoc (totalsWords (t .totals)) (replicate (64 - length (totalsWords (t .totals))) 0) _ in
+      let at : drop totalsAt words ≡ totalsWords (t .totals) ++ (replicate (totalsWidth - length (totalsWords (t .totals))) 0 ++ (t .clock ++ (flat (t .last) ++ (rowsWords t ++ x)))) =
+      drop-at (padded mostObjects (t .header .kinds)) _ mostObjects (length-padded mostObjects (t .header .kinds) (W .fit .few-kinds)) ∙ append-assoc (totalsWords (t .totals)) (replicate (totalsWidth - length (totalsWords (t .totals))) 0) _ in
       ap (λ (l : List ℕ). map totalOfWords (pieces 2 (length (t .header .kinds)) l)) at
       ∙ ap (map totalOfWords) (pieces-at 2 (length (t .header .kinds)) (map totalWords (t .totals)) _ (wide-totals (t .totals)) (length-map (t .totals) totalWords ∙ W .one))
       ∙ map-back totalWords totalOfWords (t .totals) (totals-back (t .totals) (W .range))
@@ -90,12 +90,12 @@ module _ (t : Table) (W : Well t) (x : List ℕ) where
       ∙ ap (map rowOf) (pieces-at (7 + t .header .size) (length (t .rows)) (map (rowWords (t .header .size)) (t .rows)) _ (wide-rows (t .header .size) (t .rows) (short (t .header .size) (t .rows) (W .shape))) (length-map (t .rows) (rowWords (t .header .size))))
       ∙ map-back (rowWords (t .header .size)) rowOf (t .rows) (rows-back (t .header .size) (t .rows) (W .shape))
 
-  clock-read : take (t .header .size) (drop 103 words) ≡ t .clock
+  clock-read : take (t .header .size) (drop clockAt words) ≡ t .clock
   clock-read = ap (take (t .header .size)) clock-at ∙ take-at (t .clock) _ (t .header .size) (W .fit .clock-long)
 
-  lasts-read : pieces (t .header .size) (t .header .size) (drop (103 + t .header .size) words) ≡ t .last
+  lasts-read : pieces (t .header .size) (t .header .size) (drop (clockAt + t .header .size) words) ≡ t .last
   lasts-read = ap (pieces (t .header .size) (t .header .size)) lasts-at ∙ pieces-at (t .header .size) (t .header .size) (t .last) _ (W .fit .last-wide) (W .fit .last-many)
 
   pub table-read : tableOf (wordsOf t ++ x) ≡ t
   unfolding tableOf wordsOf
-  table-read = ap tableOf (in-a-row head (padded 32 (t .header .kinds)) (padded 64 (totalsWords (t .totals))) (t .clock) (flat (t .last)) (rowsWords t) x) ∙ rw (kinds-read, totals-read, clock-read, lasts-read, rows-read) refl
+  table-read = ap tableOf (in-a-row head (padded mostObjects (t .header .kinds)) (padded totalsWidth (totalsWords (t .totals))) (t .clock) (flat (t .last)) (rowsWords t) x) ∙ rw (kinds-read, totals-read, clock-read, lasts-read, rows-read) refl

@@ -9,15 +9,15 @@ use lib.Dec.{eqb}
 use lib.ListN.{length, getD, drop, replicate, length-drop, length-append, length-replicate}
 use Rattle.meaning.specs.Operations.{numberOf}
 use Rattle.meaning.specs.Rows.{Row}
-use Rattle.words_layout.specs.Words.{padded}
+use Rattle.words_layout.specs.Words.{padded, wordLimit}
 use Rattle.words_layout.specs.Layout.{rowWords, rowOf}
 
 -- a vector as long as the group is, or none in a settled row
 pub record Shaped (n : ℕ) (r : Row) : Type 0 where
   pub long : length (r .operation .vector) ≡ cond (r .settled) 0 n
 
-halves : (v : ℕ) → v / 4294967296 * 4294967296 + v % 4294967296 ≡ v
-halves v = div-add-mod' v 4294967296
+halves : (v : ℕ) → v / wordLimit * wordLimit + v % wordLimit ≡ v
+halves v = div-add-mod' v wordLimit
 
 abbrev mk : Bool → ℕ → ℕ → ℕ → ℕ → List ℕ → Row
 mk b o c v s l = record { settled = b; operation = record { object = o; code = c; value = v; sender = s; vector = l } }
@@ -36,7 +36,7 @@ row-read n r h = read-parts n (r .settled) (r .operation .object) (r .operation 
 -- the words of a row: seven, and a vector; the number is the sender's entry; a settled row has no tag
 pub record Spelt (n : ℕ) (ws : List ℕ) : Type 0 where
   pub wide : length ws ≡ 7 + n
-  pub word : getD ws 2 0 < 4294967296
+  pub word : getD ws 2 0 < wordLimit
   pub flag : getD ws 4 0 ≤ 1
   pub number : getD ws 6 0 ≡ getD (drop 7 ws) (getD ws 5 0) 0
   pub bare : getD ws 4 0 ≡ 0 → (getD ws 5 0 ≡ 0) × (drop 7 ws ≡ replicate n 0)
@@ -46,10 +46,10 @@ open-word zero h = refl
 open-word (suc zero) h = refl
 open-word (suc (suc e)) h = absurd (omega arith)
 
-pub high-of : (h l : ℕ) → l < 4294967296 → (h * 4294967296 + l) / 4294967296 ≡ h
+pub high-of : (h l : ℕ) → l < wordLimit → (h * wordLimit + l) / wordLimit ≡ h
 high-of h l b = omega arith
 
-pub low-of : (h l : ℕ) → l < 4294967296 → (h * 4294967296 + l) % 4294967296 ≡ l
+pub low-of : (h l : ℕ) → l < wordLimit → (h * wordLimit + l) % wordLimit ≡ l
 low-of h l b = omega arith
 
 zero-at : (n : ℕ) → _≡_ {A = ℕ} (getD (replicate n 0) 0 0) 0
@@ -57,7 +57,7 @@ zero-at zero = refl
 zero-at (suc n) = refl
 
 -- with its seven words named
-write-parts : (n o h l c e s k : ℕ) (v : List ℕ) → length v ≡ n → l < 4294967296 → e ≤ 1 → k ≡ getD v s 0 → (e ≡ 0 → (s ≡ 0) × (v ≡ replicate n 0))
+write-parts : (n o h l c e s k : ℕ) (v : List ℕ) → length v ≡ n → l < wordLimit → e ≤ 1 → k ≡ getD v s 0 → (e ≡ 0 → (s ≡ 0) × (v ≡ replicate n 0))
     → rowWords n (rowOf (o ∷ h ∷ l ∷ c ∷ e ∷ s ∷ k ∷ v)) ≡ o ∷ h ∷ l ∷ c ∷ e ∷ s ∷ k ∷ v
 unfolding numberOf
 write-parts n o h l c zero s k v w b f q z =

@@ -9,24 +9,25 @@ use lib.Dec.{ltb}
 use lib.ListN.{length, getD, take, drop, replicate, length-drop, length-map, take-append-drop}
 use lib.Seq.{drop-drop, take-add, length-take-le, getD-drop}
 use Rattle.meaning.proofs.Tests.{cases}
-use Rattle.words_layout.specs.Words.{complement, ofComplement, ofTwoWords, pieces, flat, padded}
-use Rattle.words_layout.specs.Layout.{tableMark, totalWords, totalOfWords, totalsWords, rowWords, rowOf, wordsOf, tableOf, rewritten, beyond, spaceFor, rowsAt, rowsIn, sizeIn, capacityIn, objectsIn, countIn}
+use Rattle.words_layout.specs.Words.{complement, ofComplement, ofTwoWords, pieces, flat, padded, wordLimit}
+use Rattle.words_layout.specs.Layout.{tableMark, totalWords, totalOfWords, totalsWords, rowWords, rowOf, wordsOf, tableOf, rewritten, beyond, spaceFor, rowsAt, rowsIn, sizeIn, capacityIn, objectsIn, countIn, clockAt, totalsAt, totalsWidth}
 use Rattle.words_layout.proofs.Pieces.{Each, map-back, flat-pieces, length-pieces}
 use Rattle.words_layout.proofs.RowWords.{Spelt, row-written}
 use Rattle.words_layout.proofs.Reading.{in-a-row}
+use Rattle.meaning.specs.Table.{mostObjects}
 
 -- two words are what would be written for the total that they spell
 pub code-read : (t : ℕ) → t < 18446744073709551616 → complement (ofComplement t) ≡ t
 unfolding complement ofComplement
 code-read t h = cases (ltb t 9223372036854775808) (λ p. rw p (omega arith)) (λ p. rw p (omega (arith, ltb-false t 9223372036854775808 p)))
 
-two-back : (a b : ℕ) → a < 4294967296 → b < 4294967296 → totalWords (totalOfWords (a ∷ b ∷ [])) ≡ a ∷ b ∷ []
+two-back : (a b : ℕ) → a < wordLimit → b < wordLimit → totalWords (totalOfWords (a ∷ b ∷ [])) ≡ a ∷ b ∷ []
 two-back a b h k =
-    let d : (a * 4294967296 + b) / 4294967296 ≡ a = omega arith in
-    let m : (a * 4294967296 + b) % 4294967296 ≡ b = omega arith in
+    let d : (a * wordLimit + b) / wordLimit ≡ a = omega arith in
+    let m : (a * wordLimit + b) % wordLimit ≡ b = omega arith in
     rw (code-read (ofTwoWords a b) (omega arith), d, m) refl
 
-totals-written : (k : ℕ) (s : List ℕ) → ((i : ℕ) → getD s i 0 < 4294967296) → k * 2 ≤ length s → map totalWords (map totalOfWords (pieces 2 k s)) ≡ pieces 2 k s
+totals-written : (k : ℕ) (s : List ℕ) → ((i : ℕ) → getD s i 0 < wordLimit) → k * 2 ≤ length s → map totalWords (map totalOfWords (pieces 2 k s)) ≡ pieces 2 k s
 totals-written zero s b h = refl
 totals-written (suc k) (x ∷ y ∷ s) b h = rw (two-back x y (b 0) (b 1), totals-written k s (λ i. b (suc (suc i))) (let q : suc k * 2 ≤ suc (suc (length s)) = h in omega arith)) refl
 totals-written (suc k) (x ∷ []) b h = absurd (omega arith)
@@ -44,13 +45,13 @@ part-padded s p a i k h room e z =
 
 pub record Spelling (s : List ℕ) : Type 0 where
   pub room : spaceFor (sizeIn s) (capacityIn s) ≤ length s
-  pub words : (i : ℕ) → getD s i 0 < 4294967296
+  pub words : (i : ℕ) → getD s i 0 < wordLimit
   pub mark : getD s 0 0 ≡ tableMark
   pub idle : getD s 6 0 ≡ 0
-  pub objects : objectsIn s ≤ 32
+  pub objects : objectsIn s ≤ mostObjects
   pub within : countIn s ≤ capacityIn s
-  pub kinds : take (32 - objectsIn s) (drop (7 + objectsIn s) s) ≡ replicate (32 - objectsIn s) 0
-  pub totals : take (64 - objectsIn s * 2) (drop (39 + objectsIn s * 2) s) ≡ replicate (64 - objectsIn s * 2) 0
+  pub kinds : take (mostObjects - objectsIn s) (drop (7 + objectsIn s) s) ≡ replicate (mostObjects - objectsIn s) 0
+  pub totals : take (totalsWidth - objectsIn s * 2) (drop (totalsAt + objectsIn s * 2) s) ≡ replicate (totalsWidth - objectsIn s * 2) 0
   pub rows : Each (Spelt (sizeIn s)) (rowsIn s)
   pub unused : take (capacityIn s * (7 + sizeIn s) - countIn s * (7 + sizeIn s)) (drop (rowsAt (sizeIn s) + countIn s * (7 + sizeIn s)) s) ≡ replicate (capacityIn s * (7 + sizeIn s) - countIn s * (7 + sizeIn s)) 0
 
@@ -75,16 +76,16 @@ module _ (s : List ℕ) (S : Spelling s) where
   abbrev o : ℕ
   o = objectsIn s
 
-  kinds-part : take 32 (drop 7 s) ≡ padded 32 (take o (drop 7 s))
-  kinds-part = part-padded s (take o (drop 7 s)) 7 o 32 (S .objects) (omega (arith, S .room)) refl (S .kinds)
+  kinds-part : take mostObjects (drop 7 s) ≡ padded mostObjects (take o (drop 7 s))
+  kinds-part = part-padded s (take o (drop 7 s)) 7 o mostObjects (S .objects) (omega (arith, S .room)) refl (S .kinds)
 
-  totals-part : take 64 (drop 39 s) ≡ padded 64 (totalsWords (map totalOfWords (pieces 2 o (drop 39 s))))
+  totals-part : take totalsWidth (drop totalsAt s) ≡ padded totalsWidth (totalsWords (map totalOfWords (pieces 2 o (drop totalsAt s))))
   totals-part =
-      part-padded s (totalsWords (map totalOfWords (pieces 2 o (drop 39 s)))) 39 (o * 2) 64 (omega (arith, S .objects)) (omega (arith, S .room))
-      (ap flat (totals-written o (drop 39 s) (λ i. rw (getD-drop 39 s i 0) (S .words (39 + i))) (simp length-drop (omega (arith, S .room, S .objects)))) ∙ flat-pieces 2 o (drop 39 s)) (S .totals)
+      part-padded s (totalsWords (map totalOfWords (pieces 2 o (drop totalsAt s)))) totalsAt (o * 2) totalsWidth (omega (arith, S .objects)) (omega (arith, S .room))
+      (ap flat (totals-written o (drop totalsAt s) (λ i. rw (getD-drop totalsAt s i 0) (S .words (totalsAt + i))) (simp length-drop (omega (arith, S .room, S .objects)))) ∙ flat-pieces 2 o (drop totalsAt s)) (S .totals)
 
-  lasts-part : take (n * n) (drop (103 + n) s) ≡ flat (pieces n n (drop (103 + n) s))
-  lasts-part = sym (flat-pieces n n (drop (103 + n) s))
+  lasts-part : take (n * n) (drop (clockAt + n) s) ≡ flat (pieces n n (drop (clockAt + n) s))
+  lasts-part = sym (flat-pieces n n (drop (clockAt + n) s))
 
   area : countIn s * (7 + n) ≤ capacityIn s * (7 + n)
   area = mul-le-mul-right (7 + n) (S .within)
@@ -94,14 +95,14 @@ module _ (s : List ℕ) (S : Spelling s) where
       part-padded s (flat (map (rowWords n) (map rowOf (rowsIn s)))) (rowsAt n) (countIn s * (7 + n)) (capacityIn s * (7 + n)) area (omega (arith, S .room))
       (ap flat (map-back rowOf (rowWords n) (rowsIn s) (rows-kept n (rowsIn s) (S .rows))) ∙ flat-pieces (7 + n) (countIn s) (drop (rowsAt n) s)) (S .unused)
 
-  parts : s ≡ take 7 s ++ (take 32 (drop 7 s) ++ (take 64 (drop 39 s) ++ (take n (drop 103 s) ++ (take (n * n) (drop (103 + n) s) ++ (take (capacityIn s * (7 + n)) (drop (rowsAt n) s) ++ beyond s)))))
+  parts : s ≡ take 7 s ++ (take mostObjects (drop 7 s) ++ (take totalsWidth (drop totalsAt s) ++ (take n (drop clockAt s) ++ (take (n * n) (drop (clockAt + n) s) ++ (take (capacityIn s * (7 + n)) (drop (rowsAt n) s) ++ beyond s)))))
   parts =
       sym (take-append-drop 7 s)
-      ∙ ap (λ (l : List ℕ). take 7 s ++ l) (cut s 7 32
-      ∙ ap (λ (l : List ℕ). take 32 (drop 7 s) ++ l) (cut s 39 64
-      ∙ ap (λ (l : List ℕ). take 64 (drop 39 s) ++ l) (cut s 103 n
-      ∙ ap (λ (l : List ℕ). take n (drop 103 s) ++ l) (cut s (103 + n) (n * n)
-      ∙ ap (λ (l : List ℕ). take (n * n) (drop (103 + n) s) ++ l) (cut s (rowsAt n) (capacityIn s * (7 + n)))))))
+      ∙ ap (λ (l : List ℕ). take 7 s ++ l) (cut s 7 mostObjects
+      ∙ ap (λ (l : List ℕ). take mostObjects (drop 7 s) ++ l) (cut s totalsAt totalsWidth
+      ∙ ap (λ (l : List ℕ). take totalsWidth (drop totalsAt s) ++ l) (cut s clockAt n
+      ∙ ap (λ (l : List ℕ). take n (drop clockAt s) ++ l) (cut s (clockAt + n) (n * n)
+      ∙ ap (λ (l : List ℕ). take (n * n) (drop (clockAt + n) s) ++ l) (cut s (rowsAt n) (capacityIn s * (7 + n)))))))
 
   count-kinds : length (take o (drop 7 s)) ≡ o
   count-kinds = length-take-le o (drop 7 s) (simp length-drop (omega (arith, S .room, S .objects)))
@@ -116,4 +117,4 @@ module _ (s : List ℕ) (S : Spelling s) where
   unfolding rewritten wordsOf tableOf
   spelt-back =
       parts ∙ rw (head-part, kinds-part, totals-part, lasts-part, rows-part)
-      (sym (in-a-row (tableMark ∷ n ∷ getD s 2 0 ∷ capacityIn s ∷ length (take o (drop 7 s)) ∷ length (map rowOf (rowsIn s)) ∷ 0 ∷ []) (padded 32 (take o (drop 7 s))) (padded 64 (totalsWords (map totalOfWords (pieces 2 o (drop 39 s))))) (take n (drop 103 s)) (flat (pieces n n (drop (103 + n) s))) (padded (capacityIn s * (7 + n)) (flat (map (rowWords n) (map rowOf (rowsIn s))))) (beyond s)))
+      (sym (in-a-row (tableMark ∷ n ∷ getD s 2 0 ∷ capacityIn s ∷ length (take o (drop 7 s)) ∷ length (map rowOf (rowsIn s)) ∷ 0 ∷ []) (padded mostObjects (take o (drop 7 s))) (padded totalsWidth (totalsWords (map totalOfWords (pieces 2 o (drop totalsAt s))))) (take n (drop clockAt s)) (flat (pieces n n (drop (clockAt + n) s))) (padded (capacityIn s * (7 + n)) (flat (map (rowWords n) (map rowOf (rowsIn s))))) (beyond s)))

@@ -10,17 +10,17 @@ use lib.ListN.{length, getD, take, drop, set, replicate, length-drop, length-app
 use lib.Seq.{take-at, drop-at, length-take-le}
 use Rattle.meaning.specs.Tests.{those}
 use Rattle.meaning.specs.Rows.{Row}
-use Rattle.meaning.specs.Table.{Table}
+use Rattle.meaning.specs.Table.{Table, mostObjects}
 use Rattle.meaning.specs.Calls.{withRows}
 use Rattle.words_layout.specs.Words.{pieces, flat, padded}
-use Rattle.words_layout.specs.Layout.{Laid, totalWords, totalOfWords, totalsWords, rowWords, rowOf, frontWords, rowsWords, wordsOf, tableOf, rewritten, beyond, rowsAt, rowsIn, sizeIn, capacityIn, objectsIn, countIn}
+use Rattle.words_layout.specs.Layout.{Laid, totalWords, totalOfWords, totalsWords, rowWords, rowOf, frontWords, rowsWords, wordsOf, tableOf, rewritten, beyond, rowsAt, rowsIn, sizeIn, capacityIn, objectsIn, countIn, clockAt, totalsAt, totalsWidth}
 use Rattle.words_layout.proofs.Pieces.{Wide, Each, each-those, map-back, those-map, length-pieces, length-flat, wide-pieces, pieces-at, wide-those}
 use Rattle.words_layout.proofs.RowWords.{length-row, short-row}
 
 -- the parts of a table record are as long as its header says
 pub record Fit (t : Table) : Type 0 where
-  pub few-kinds : length (t .header .kinds) ≤ 32
-  pub few-totals : length (t .totals) ≤ 32
+  pub few-kinds : length (t .header .kinds) ≤ mostObjects
+  pub few-totals : length (t .totals) ≤ mostObjects
   pub clock-long : length (t .clock) ≡ t .header .size
   pub last-wide : Wide (t .header .size) (t .last)
   pub last-many : length (t .last) ≡ t .header .size
@@ -32,7 +32,7 @@ pub wide-totals : (l : List ℤ) → Wide 2 (map totalWords l)
 wide-totals [] = tt
 wide-totals (z ∷ l) = (refl, wide-totals l)
 
-pub totals-long : (l : List ℤ) → length l ≤ 32 → length (totalsWords l) ≤ 64
+pub totals-long : (l : List ℤ) → length l ≤ mostObjects → length (totalsWords l) ≤ totalsWidth
 totals-long l h = rw (length-flat 2 (map totalWords l) (wide-totals l), length-map l totalWords) (omega arith)
 
 pub length-front : (t : Table) → Fit t → length (frontWords t) ≡ rowsAt (t .header .size)
@@ -73,10 +73,10 @@ module _ (s : List ℕ) (T : Laid s) where
   unfolding tableOf
   fit = record {
     few-kinds = rw length-take (omega (arith, T .objects));
-    few-totals = rw (length-map (pieces 2 (objectsIn s) (drop 39 s)) totalOfWords, length-pieces 2 (objectsIn s) (drop 39 s)) (T .objects);
-    clock-long = length-take-le (sizeIn s) (drop 103 s) (simp length-drop (omega (arith, T .room)));
-    last-wide = wide-pieces (sizeIn s) (sizeIn s) (drop (103 + sizeIn s) s) (simp length-drop (omega (arith, T .room)));
-    last-many = length-pieces (sizeIn s) (sizeIn s) (drop (103 + sizeIn s) s);
+    few-totals = rw (length-map (pieces 2 (objectsIn s) (drop totalsAt s)) totalOfWords, length-pieces 2 (objectsIn s) (drop totalsAt s)) (T .objects);
+    clock-long = length-take-le (sizeIn s) (drop clockAt s) (simp length-drop (omega (arith, T .room)));
+    last-wide = wide-pieces (sizeIn s) (sizeIn s) (drop (clockAt + sizeIn s) s) (simp length-drop (omega (arith, T .room)));
+    last-many = length-pieces (sizeIn s) (sizeIn s) (drop (clockAt + sizeIn s) s);
   }
 
   split : s ≡ frontWords (tableOf s) ++ (rowsWords (tableOf s) ++ beyond s)

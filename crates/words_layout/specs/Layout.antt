@@ -9,7 +9,7 @@ use lib.ListN.{length, getD, take, drop}
 use Rattle.meaning.specs.Order.{Vector, same}
 use Rattle.meaning.specs.Operations.{numberOf}
 use Rattle.meaning.specs.Rows.{Row}
-use Rattle.meaning.specs.Table.{Table, mostObjects, isTable}
+use Rattle.meaning.specs.Table.{Table, mostObjects, isTable, greatestSize, greatestCapacity}
 use Rattle.words_layout.specs.Words.{wordLimit, inTwoWords, ofTwoWords, complement, ofComplement, pieces, flat, padded}
 
 -- Where the parts of a table of N stations stand: seven words of head, the kinds, the totals, D, L, the rows.
@@ -17,10 +17,14 @@ abbrev pub kindsAt : ℕ
 kindsAt = 7
 
 abbrev pub totalsAt : ℕ
-totalsAt = 39
+totalsAt = kindsAt + mostObjects
+
+-- A total has two words.
+abbrev pub totalsWidth : ℕ
+totalsWidth = 2 * mostObjects
 
 abbrev pub clockAt : ℕ
-clockAt = 103
+clockAt = totalsAt + totalsWidth
 
 abbrev pub lastAt : ℕ → ℕ
 lastAt size = clockAt + size
@@ -35,6 +39,16 @@ rowWidth size = 7 + size
 -- How many words a table needs.
 abbrev pub spaceFor : ℕ → ℕ → ℕ
 spaceFor size capacity = rowsAt size + capacity * rowWidth size
+
+-- The words of the largest table: of those before its rows, of its rows, and altogether.
+abbrev pub mostBeforeRows : ℕ
+mostBeforeRows = rowsAt greatestSize
+
+abbrev pub mostRowWords : ℕ
+mostRowWords = greatestCapacity greatestSize * rowWidth greatestSize
+
+abbrev pub mostWords : ℕ
+mostWords = mostBeforeRows + mostRowWords
 
 -- The first word tells a table from other words: "roll" in four bytes.
 abbrev pub tableMark : ℕ
@@ -89,7 +103,7 @@ abbrev pub frontWords : Table → List ℕ
 frontWords table =
     headWords table
     ++ (padded mostObjects (table .header .kinds)
-    ++ (padded (2 * mostObjects) (totalsWords (table .totals)) ++ (table .clock ++ flat (table .last))))
+    ++ (padded totalsWidth (totalsWords (table .totals)) ++ (table .clock ++ flat (table .last))))
 
 -- Unused rows are zero.
 abbrev pub rowsWords : Table → List ℕ
@@ -146,9 +160,9 @@ rewritten words table = wordsOf table ++ beyond words
 pub record Laid (words : List ℕ) : Type 0 where
   pub room : spaceFor (sizeIn words) (capacityIn words) ≤ length words
   pub some : 1 ≤ sizeIn words
-  pub few : sizeIn words ≤ 16
-  pub small : capacityIn words ≤ 512
-  pub objects : objectsIn words ≤ 32
+  pub few : sizeIn words ≤ greatestSize
+  pub small : capacityIn words ≤ greatestCapacity (sizeIn words)
+  pub objects : objectsIn words ≤ mostObjects
   pub within : countIn words ≤ capacityIn words
   pub spelt : words ≡ rewritten words (tableOf words)
 

@@ -21,9 +21,9 @@ pub const LOADING_AT: usize = 6;
 // Where the parts behind the head stand.
 pub const KINDS_AT: usize = 7;
 
-pub const TOTALS_AT: usize = 39;
+pub const TOTALS_AT: usize = KINDS_AT + meaning::MOST_OBJECTS;
 
-pub const CLOCK_AT: usize = 103;
+pub const CLOCK_AT: usize = TOTALS_AT + TOTAL_WORDS * meaning::MOST_OBJECTS;
 
 // How many words a total has.
 pub const TOTAL_WORDS: usize = 2;
@@ -42,8 +42,22 @@ pub const CODE_AT: usize = 3;
 
 pub const UNSETTLED_AT: usize = 4;
 
+// What the word there says.
+pub const SETTLED: u32 = 0;
+
+pub const UNSETTLED: u32 = 1;
+
 pub const TAG_AT: usize = 5;
 
 pub const NUMBER_AT: usize = 6;
 
 pub const VECTOR_AT: usize = KEY;
+
+// The words of a row of the largest group.
+pub const WIDEST: usize = KEY + meaning::MOST_STATIONS;
+
+// The words of the largest table.
+pub const MOST_WORDS: usize = CLOCK_AT
+    + meaning::MOST_STATIONS
+    + meaning::MOST_STATIONS * meaning::MOST_STATIONS
+    + meaning::MOST_ROWS as usize * WIDEST;
