@@ -14,7 +14,7 @@ write-last-requires : tie.Need-write-last-requires
 write-last-requires c κs = (search needs, station-below _ (c .before .before .before .before .before .before .before .before .before .before .pre) [] _ (c .before .before .before .before .before .before .before .if1 .left) (c .before .before .before .before .before .before .if2 .left) _ (c .before .before .before .before .wide .ensures .0) (search needs) _ (c .before .other .ensures))
 
 returns-3 : tie.Need-returns-3
-returns-3 c = last-told _ (c .before .before .before .before .before .before .before .before .before .before .before .before .before .before .pre) _ _ (c .before .before .before .before .before .before .before .before .before .before .before .if1 .left) (c .before .before .before .before .before .before .before .before .before .before .if2 .left) _ (c .before .before .before .before .before .before .before .before .wide .ensures .0) (search needs) _ (c .before .before .before .before .before .other .ensures) _ _ (c .before .before .before .write-last .ensures) _ (c .told3 .ensures)
+returns-3 c = last-told _ (c .before .before .before .before .before .before .before .before .before .before .before .before .before .before .pre) _ _ (c .before .before .before .before .before .before .before .before .before .before .before .if1 .left) (c .before .before .before .before .before .before .before .before .before .before .if2 .left) _ (c .before .before .before .before .before .before .before .before .wide .ensures .0) (search needs) _ (c .before .before .before .before .before .other .ensures) _ _ (c .before .before .before .write-last .ensures) _ (c .as-formed3 .ensures)
 
 returns-4 : tie.Need-returns-4
 returns-4 c = search lasts-behind
