@@ -1,6 +1,6 @@
 -- The words of a fresh table: a head, the kinds, and zeros.
 use Prim.Native.Nat.{ℕ, zero, suc, _+_, _-_, _*_, _≤_, _<_}
-use mathlib.Core.Path.{_≡_, refl, sym, ap, _∙_}
+use mathlib.Core.Path.{_≡_, refl, sym, ap, subst, _∙_}
 use mathlib.Core.Bool.{true}
 use mathlib.Core.List.{List, [], _∷_, _++_, append-assoc}
 use native.Mathlib.Nat.{suc-mul, zero-mul}
@@ -73,10 +73,10 @@ module _ (s kinds : List ℕ) (size own capacity : ℕ) (range : inRange (header
   H : HeaderFacts (headerOf size own capacity kinds)
   H = header-facts (headerOf size own capacity kinds) range
 
-  pub small : capacity ≤ greatestCapacity n
-  small = H .capacity-range .1
-
   module _ (n : ℕ) (en : n ≡ size) where
+    pub small : capacity ≤ greatestCapacity n
+    small = subst (λ (m : ℕ). capacity ≤ greatestCapacity m) (sym en) (H .capacity-range .1)
+
     pub few : n ≤ greatestSize
     few = let h = H .size-range .1 in omega arith
 

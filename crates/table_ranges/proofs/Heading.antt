@@ -23,6 +23,9 @@ module _ (number least greatest : ℕ) where
   unfolding between
   range-below h = rw (lt-leb least number h) refl
 
+  pub range-to : (most : ℕ) → greatest ≡ most → (b : Bool) → b ≡ between least greatest number → b ≡ between least most number
+  range-to most e b is = is ∙ ap (λ (n : ℕ). between least n number) e
+
   pub range-from : least ≤ number → leb number greatest ≡ between least greatest number
   unfolding between
   range-from h = rw (le-leb least number h) refl
@@ -70,9 +73,9 @@ module _ (size own capacity : ℕ) (kinds : List ℕ) (a : Bool) (ea : a ≡ bet
         unfolding inRange headerRules
         range-kinds f = rw (sym ea ∙ ta, lt-ltb own size o, sym eb ∙ tb, sym ec ∙ f) refl
 
-        pub range-capacity : c ≡ true → (g : ℕ) → g ≡ greatestCapacity size → (d : Bool) → d ≡ between 1 g capacity → d ≡ inRange (headerOf size own capacity kinds)
+        pub range-capacity : c ≡ true → (d : Bool) → d ≡ between 1 (greatestCapacity size) capacity → d ≡ inRange (headerOf size own capacity kinds)
         unfolding inRange headerRules
-        range-capacity f g eg d ed = ed ∙ ap (λ (most : ℕ). between 1 most capacity) eg ∙ rw (sym ea ∙ ta, lt-ltb own size o, sym eb ∙ tb, sym ec ∙ f) (sym (and-true (between 1 (greatestCapacity size) capacity)))
+        range-capacity f d ed = ed ∙ rw (sym ea ∙ ta, lt-ltb own size o, sym eb ∙ tb, sym ec ∙ f) (sym (and-true (between 1 (greatestCapacity size) capacity)))
 
 -- the space
 square : (n : ℕ) → n ≤ greatestSize → n * n ≤ greatestSize * greatestSize

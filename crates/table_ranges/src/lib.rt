@@ -21,10 +21,17 @@ pub fn in_range(number: u32, least: u32, greatest: u32) -> bool
 }
 
 // The greatest capacity of a group of this size.
-pub fn greatest_capacity(size: u32) -> u32
+fn greatest_capacity(size: u32) -> u32
     ensures { λ r. ⌜ r ≡ greatestCapacity size ⌝ }
 {
     meaning::MOST_ROWS
+}
+
+// Whether a group of this size may have this capacity.
+pub fn capacity_ok(size: u32, capacity: RowCount) -> bool
+    ensures { λ r. ⌜ r ≡ between 1 (greatestCapacity size) (capacity .0) ⌝ }
+{
+    in_range(capacity.0, 1, greatest_capacity(size))
 }
 
 // Whether a table may have so many objects; a length need not fit a word.
@@ -75,7 +82,7 @@ pub fn header_ok(size: u32, own: Station, capacity: RowCount, kinds: &[u8]) -> b
     if !kinds_known(kinds) {
         return false;
     }
-    in_range(capacity.0, 1, greatest_capacity(size))
+    capacity_ok(size, capacity)
 }
 
 // Where the rows of a group of this size start.

@@ -54,7 +54,7 @@ pub fn sizes_ok(size: u32, own: Station, capacity: RowCount, objects: u32, count
     if size <= own.0 {
         return false;
     }
-    if !table_ranges::in_range(most, 1, table_ranges::greatest_capacity(size)) {
+    if !table_ranges::capacity_ok(size, capacity) {
         return false;
     }
     if !table_ranges::in_range(objects, 1, meaning::GREATEST_COUNT) {

@@ -32,5 +32,4 @@ header-ok-spec =
     (λ c κs. search needs)
     returns-4
     (λ c κs. search needs)
-    (λ c κs. search needs)
     returns-5)

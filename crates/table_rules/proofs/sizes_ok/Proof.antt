@@ -25,7 +25,7 @@ returns-5 c =
     let own-test = capacity-test .before .before in
     let size-test = own-test .before .before in
     let a = size-test .before .before .args in
-    let fact = sizes-count (a .size) (a .own .0) (a .capacity .0) (a .objects) (a .count .0) (passed-test _ _ (size-test .before .in-range .ensures) (size-test .if1 .left)) (own-test .if2 .left) (passed-test _ _ (capacity-test .before .in-range2 .ensures) (capacity-test .if3 .left)) (passed-test _ _ (objects-test .before .in-range3 .ensures) (objects-test .if4 .left)) in
+    let fact = sizes-count (a .size) (a .own .0) (a .capacity .0) (a .objects) (a .count .0) (passed-test _ _ (size-test .before .in-range .ensures) (size-test .if1 .left)) (own-test .if2 .left) (passed-test _ _ (capacity-test .before .capacity-ok .ensures) (capacity-test .if3 .left)) (passed-test _ _ (objects-test .before .in-range2 .ensures) (objects-test .if4 .left)) in
     search fact
 
 pub sizes-ok-spec : {M : Type 1} → statement M
