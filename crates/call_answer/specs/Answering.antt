@@ -1,6 +1,6 @@
 -- What the station program answers to a line at a table: the bytes of its one line, and the table space afterwards.
 use mathlib.Core.List.{List, [], _∷_}
-use Prim.Native.Nat.{ℕ}
+use Prim.Native.Nat.{ℕ, _+_}
 use lib.Dec.{eqb}
 use Rattle.meaning.specs.Table.{mostRows}
 use Rattle.meaning.specs.Calls as meaning

@@ -1,7 +1,7 @@
 -- A line of a saved form to a space under load: what it gets where it is the one that comes next, and the space afterwards.
 use mathlib.Core.Bool.{_&&_}
 use mathlib.Core.List.{List, [], _∷_}
-use Prim.Native.Nat.{ℕ, suc, _+_, _*_}
+use Prim.Native.Nat.{ℕ, suc, _+_, _-_, _*_}
 use lib.Dec.{eqb, leb}
 use lib.ListN.{getD, length, replicate, set, take}
 use lib.Seq.{paste}
