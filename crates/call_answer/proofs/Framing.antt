@@ -44,7 +44,7 @@ take-most zero l = omega arith
 take-most (suc n) [] = omega arith
 take-most (suc n) (x ∷ l) = omega (arith, take-most n l)
 
--- a frame of a table has at most 73 bytes
+-- no frame of a table is longer than the longest
 frame-few : (u : meant.Operation) → length (u .vector) ≤ greatestSize → length (hexLine (frameBytes u)) ≤ longestFrame
 unfolding frameBytes lineBytes lengthOf
 frame-few u h =

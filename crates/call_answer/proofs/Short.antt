@@ -1,4 +1,4 @@
--- Every answer has at most 2051 bytes.
+-- No answer is longer than the longest list.
 use mathlib.Core.Path.{refl}
 use mathlib.Core.Bool.{Bool, true, false}
 use mathlib.Core.List.{List, [], _∷_}

@@ -1,4 +1,4 @@
--- No line has more than 562 output lines.
+-- No line has more output lines than the longest form.
 use mathlib.Core.Path.{_≡_, refl}
 use mathlib.Core.Bool.{Bool, true, false, _&&_}
 use mathlib.Core.List.{List, [], _∷_}

@@ -76,7 +76,7 @@ module _ (words out : List ℕ) (k : ℕ) (before : Judged) where
   unfolding resavedBy resavedLines
   refused-resaved number e r y p = ap (λ (q : Answered × List ℕ). (q .0, (words, q .1))) p ∙ sym (ap (λ (v : Judged). resavedBy v k words out) e)
 
--- there are no more than 562 of them
+-- there are no more of them than the longest form has
 pub resaved-count : (verdict : Judged) (words : List ℕ) → length (resavedLines verdict words) ≤ mostFormLines
 unfolding resavedLines
 resaved-count judged.Open words = let r : 0 ≤ mostFormLines = omega arith in r

@@ -1,4 +1,4 @@
--- A form has at most 562 lines: its opening, D, 15 last vectors, 32 totals, 512 rows, its closing line.
+-- A form has at most its opening, D, the other last vectors, the totals, the rows and its closing line.
 use mathlib.Core.Path.{_≡_, refl}
 use mathlib.Core.Bool.{Bool, true, false, not, cond}
 use mathlib.Core.List.{List, [], _∷_, _++_, map}

@@ -1,4 +1,4 @@
--- No line of a form has more than 73 bytes: that of a row with 16 entries.
+-- No line of a form is longer than that of a row in the largest group.
 use mathlib.Core.Path.{_≡_, refl}
 use mathlib.Core.Bool.{Bool, true, false, not, cond}
 use mathlib.Core.List.{List, [], _∷_, _++_, map, List·Memᴰ, List·Memᴰ·head, List·Memᴰ·tail}
@@ -21,7 +21,7 @@ use Rattle.form_lines.specs.FormLines.{openingLine, clockLine, lastLine, totalL
 use Rattle.form_write.specs.Forms.{linesOf, lastLines, totalLines, rowLines, savedForm}
 use Rattle.form_write.proofs.ReadsBack.{last-known, row-known}
 
--- every line has at most 73 bytes
+-- every line is at most as long
 abbrev pub Short : List (List ℕ) → Type 0
 Short [] = Unit {0}
 Short (line ∷ lines) = (length line ≤ longestVectorLine) × Short lines

@@ -156,7 +156,7 @@ record Goes (words : List ℕ) (all : ℕ) : Type 0 where
   closes : loadedBy line mid ≡ (loaded.Table, after)
   long : length after ≡ all
 
--- no load has come further than 49 lines, those of rows aside
+-- no load has come further than the lines ahead of the rows
 goes : (n p : ℕ) (t : Table) (rest : List ℕ) → Keeps p t → underLoad (under p t rest) ≡ true → p + n ≡ 50 → Goes (under p t rest) (spaceFor (t .header .size) (t .header .capacity) + length rest)
 goes zero p t rest K u e = absurd (omega (arith, load-early (under p t rest) u, progress-is t (K .fresh) rest p))
 goes (suc n) p t rest K u e = ⊎-elim
