@@ -13,6 +13,8 @@ use Rattle.meaning.specs.Tests.{any, every, everyAt, those, allHold, bet
 
 -- Nothing of the tables of lines is used here: these two have them checked before every law, so that a wrong rule or number is refused at a line
 -- of them first.
+use Rattle.meaning.specs.Papers.{papers}
+use Rattle.meaning.specs.Boundaries.{boundaries}
 
 -- a case on a test, with the equation
 pub cases : {C : Type 0} (b : Bool) → (b ≡ true → C) → (b ≡ false → C) → C
