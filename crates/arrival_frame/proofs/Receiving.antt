@@ -31,7 +31,6 @@ use Rattle.table_rules.specs.Checked.{Checked}
 use Rattle.arrival.specs.Arrives.{Arrives, arrivalFrom, hasRoom}
 use Rattle.arrival.proofs.Arriving.{opened-again, spells}
 use Rattle.arrival.proofs.Kept.{table-back, table-held}
-use Rattle.arrival.proofs.Made.{operation-is}
 use Rattle.arrival.proofs.Chain.{numbered, chain-then}
 use Rattle.refusal_order.specs.Fields.{frameFrom}
 use Rattle.refusal_order.specs.declared.Sent.{Sent}
@@ -51,12 +50,9 @@ early-is s n m f v r en em e =
 abbrev pub arrivalIn : Table → Sent → Arrival
 arrivalIn table f = arrivalFrom (kindIn (table .header) (f .object)) (f .object) (f .code) (f .value) (f .sender)
 
-arrival-is : (table : Table) (f : Sent) (v : Vector) → operationOf (arrivalIn table f) v ≡ frameFrom f v .operation
-arrival-is table f v = operation-is (kindIn (table .header) (f .object)) (f .object) (f .code) (f .value) (f .sender) v
-
 room-same : (table : Table) (f : Sent) (v : Vector) → hasRoom (arrivalIn table f) v table ≡ roomFor table (frameFrom f v .operation)
 unfolding hasRoom roomFor
-room-same table f v = rw (arrival-is table f v) refl
+room-same table f v = refl
 
 -- every number of the chain is one
 numbered-chain : (header : Header) (clock : Vector) (last : List Vector) (frame : Frame) → every numbered (frameRefusals header clock last frame) ≡ true
@@ -148,7 +144,6 @@ module _ (s : List ℕ) (n : ℕ) (f : Sent) (v : Vector) (C : Checked s) (long 
       entries = long ∙ sym en;
       declared = rw table-is (A .declared-object);
       kind-is = rw table-is refl;
-      one-word = refl;
       sender-in = sender-below;
       rises = rw table-is rises;
       room = rw table-is room;
@@ -162,7 +157,7 @@ module _ (s : List ℕ) (n : ℕ) (f : Sent) (v : Vector) (C : Checked s) (long 
       unfolding afterArrival
       frame-taken q s₂ g =
           and-then s s₁ s₂ heard (λ (t : Table). afterArrival t (operationOf a v) (t .last)) heard-well heard-sized e g
-          ∙ ap (λ (u : Operation). rewritten s (afterArrival heard u (heard .last))) (ap (λ (x : Arrival). operationOf x v) ea ∙ arrival-is table f v)
+          ∙ ap (λ (u : Operation). rewritten s (afterArrival heard u (heard .last))) (ap (λ (x : Arrival). operationOf x v) ea)
           ∙ ap (λ (m : ℕ). rewritten s (afterArrival table (frame .operation) (set (table .last) m v))) q
 
 -- the number and the words

@@ -22,6 +22,7 @@ use Rattle.words_layout.specs.Words.{padded}
 use Rattle.words_layout.specs.Layout.{holdsTable, tableOf, rewritten, sizeIn, ownIn, capacityIn, objectsIn, countIn, clockAt}
 use Rattle.words_layout.proofs.Whole.{zeros-drop, fit}
 use Rattle.words_tags.specs.declared.Station.{Station}
+use Rattle.words_tags.specs.declared.Value.{Value}
 use Rattle.table_drop.specs.Arriving.{operationOf}
 use Rattle.table_drop.specs.declared.Arrival.{Arrival}
 use Rattle.table_change.specs.Changes.{entryBelowLimit}
@@ -29,7 +30,6 @@ use Rattle.table_change.proofs.Changing.{opened}
 use Rattle.table_rules.specs.Checked.{Checked}
 use Rattle.arrival.specs.Arrives.{Arrives, arrivalFrom, hasRoom}
 use Rattle.arrival.proofs.Kept.{table-back, table-held}
-use Rattle.arrival.proofs.Made.{operation-is}
 use Rattle.arrival.proofs.Chain.{numbered, chain-then}
 use Rattle.refusal_order.specs.Fields.{localFrom}
 
@@ -136,16 +136,16 @@ module _ (s : List ℕ) (C : Checked s) (n : ℕ) (en : n ≡ sizeIn s) (next : 
   vector-long = rw vector-is raised-long
 
   -- what arrives of a local operation
-  module _ (object code value : ℕ) (own : Station) (eo : own .0 ≡ ownIn s) (a : Arrival) (ea : a ≡ arrivalFrom (kindIn (tableOf s .header) object) object code value own) where
+  module _ (object code : ℕ) (value : Value) (own : Station) (eo : own .0 ≡ ownIn s) (a : Arrival) (ea : a ≡ arrivalFrom (kindIn (tableOf s .header) object) object code value own) where
     abbrev table : Table
     table = tableOf s
 
     abbrev local : Local
-    local = localFrom object code value
+    local = localFrom object code (value .0)
 
     issued-is : operationOf a (take (n - 0) next) ≡ issuedBy table local
     unfolding issuedBy tableOf
-    issued-is = rw (ea, vector-is) (operation-is (kindIn (table .header) object) object code value own (raised (table .clock) (ownIn s)) ∙ rw eo refl)
+    issued-is = rw (ea, vector-is) (rw eo refl)
 
     room-same : hasRoom a (take (n - 0) next) table ≡ roomFor table (issuedBy table local)
     unfolding hasRoom roomFor issuedBy
@@ -175,9 +175,8 @@ module _ (s : List ℕ) (C : Checked s) (n : ℕ) (en : n ≡ sizeIn s) (next : 
         entries = vector-long;
         declared = rw ea (A .declared-object);
         kind-is = rw ea refl;
-        one-word = rw ea refl;
         sender-in = rw (ea, eo, en) (C .own);
-        rises = rw (ea, eo) (rises-accepted s C object code value ok);
+        rises = rw (ea, eo) (rises-accepted s C object code (value .0) ok);
         room = room-same ∙ le-leb (length (rowsAfter (kindIn (table .header) object) (issuedBy table local) (table .rows))) (table .header .capacity) (A .room);
       }
 

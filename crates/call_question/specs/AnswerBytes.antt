@@ -1,7 +1,7 @@
 -- The bytes of an answer's line: "`00` and the result, or `ff` and the refusal number".
 use mathlib.Core.Bool.{cond}
 use mathlib.Core.List.{List, [], _∷_}
-use Prim.Native.Nat.{ℕ}
+use Prim.Native.Nat.{ℕ, _+_, _*_}
 use lib.ListN.{length}
 use Rattle.meaning.specs.Questions as question
 use Rattle.meaning.specs.Calls as meaning

@@ -47,7 +47,7 @@ shown-small o (row ∷ rows) f zero v rest e = cases (shows o row rows)
 
 -- what a step of the walk returns
 abbrev found : ℕ → ℕ → Found
-found value passed = record { value = value; passed = record { 0 = passed } }
+found value passed = record { value = record { 0 = value }; passed = record { 0 = passed } }
 
 -- the rows behind the first so many
 behind-rows : (w more k at : ℕ) (s : List ℕ) → k ≤ more → drop k (map rowOf (pieces w more (drop at s))) ≡ map rowOf (pieces w (more - k) (drop (at + k * w) s))

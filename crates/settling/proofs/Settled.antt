@@ -193,26 +193,26 @@ module _ (s : List ℕ) (K : Checked s) (m : ℕ) (e : m ≡ sizeIn s) where
   pub low-given : (r : List ℕ) → r ≡ padded greatestSize (lowOf (take (clockAt + m - clockAt) (drop clockAt s)) (othersOf (ownIn s) (pieces (length (take (clockAt + m - clockAt) (drop clockAt s))) (length (take (clockAt + m - clockAt) (drop clockAt s))) (take (length s - (clockAt + m)) (drop (clockAt + m) s))))) → r ≡ padded greatestSize (low (tableOf s))
   low-given r f = low-is s K r (rw e at f)
 
-module _ (s : List ℕ) (K : Checked s) (m c : ℕ) (O : Opened s m c) (kinds low₁ : List ℕ) (k : kinds ≡ take mostObjects (drop 7 s)) (l : low₁ ≡ padded greatestSize (low (tableOf s))) where
+module _ (s : List ℕ) (K : Checked s) (m c : ℕ) (O : Opened s m c) (kinds low₁ : List ℕ) (k : kinds ≡ take mostObjects (drop 7 s)) (l : low₁ ≡ padded greatestSize (low (tableOf s))) (from : ℕ) (start : from ≡ rowsAt m) where
   abbrev rest : List ℕ
-  rest = take (length s - (clockAt + m + m * m)) (drop (clockAt + m + m * m) s)
+  rest = take (length s - from) (drop from s)
 
   pub lent-long : length (take (m - 0) low₁) ≡ m
   lent-long = rw (O .size-is) (pass-asks s K low₁ l .0)
 
   pub lent-room : c * (7 + m) ≤ length rest
-  lent-room = rw (O .size-is, O .count-is) (pass-asks s K low₁ l .1)
+  lent-room = rw (start, O .size-is, O .count-is) (pass-asks s K low₁ l .1)
 
   pub lent-held : Held kinds m (pieces (7 + m) c rest)
-  lent-held = rw (k, O .size-is, O .count-is) (rows-held s K)
+  lent-held = rw (k, start, O .size-is, O .count-is) (rows-held s K)
 
   pub call-steps : (limit taken : ℕ) → taken ≡ stepsThen kinds (take (m - 0) low₁) limit (map rowOf (pieces (7 + m) c rest)) → taken ≡ steps (tableOf s) limit
-  call-steps limit taken f = settled-steps s K limit low₁ taken l (rw (k, O .size-is, O .count-is) at f)
+  call-steps limit taken f = settled-steps s K limit low₁ taken l (rw (k, start, O .size-is, O .count-is) at f)
 
   pub call-words : (limit left : ℕ) (x : List ℕ) → left ≡ length (rowsThen kinds (take (m - 0) low₁) limit (map rowOf (pieces (7 + m) c rest))) →
       x ≡ padded (c * (7 + m)) (flat (map (rowWords m) (rowsThen kinds (take (m - 0) low₁) limit (map rowOf (pieces (7 + m) c rest))))) ++ drop (c * (7 + m)) rest →
-      set (take (clockAt + m + m * m) s ++ (x ++ drop (length s - (clockAt + m + m * m)) (drop (clockAt + m + m * m) s))) 5 left ≡ rewritten s (withRows (tableOf s) (rowsSettled (tableOf s) limit))
-  call-words limit left x f g = rw (O .size-is) (settled-words s K limit low₁ x left l (rw (k, O .size-is, O .count-is) at f) (rw (k, O .size-is, O .count-is) at g))
+      set (take from s ++ (x ++ drop (length s - from) (drop from s))) 5 left ≡ rewritten s (withRows (tableOf s) (rowsSettled (tableOf s) limit))
+  call-words limit left x f g = rw (start, O .size-is) (settled-words s K limit low₁ x left l (rw (k, start, O .size-is, O .count-is) at f) (rw (k, start, O .size-is, O .count-is) at g))
 
 -- the numbers of the head are those that the words hold
 pub head-opened : (s : List ℕ) → Checked s → (m c : ℕ) → m ≡ sizeIn s → c ≡ countIn s → Opened s m c
