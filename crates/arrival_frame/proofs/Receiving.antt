@@ -21,7 +21,7 @@ use Rattle.meaning.proofs.TableFacts.{facts, every-place}
 use Rattle.words_layout.specs.Words.{pieces}
 use Rattle.words_layout.specs.Layout.{holdsTable, tableOf, rewritten, sizeIn, ownIn, capacityIn, objectsIn, countIn, rowsIn, rowsAt, rowOf, withLast, clockAt}
 use Rattle.words_layout.proofs.Pieces.{length-pieces}
-use Rattle.words_layout.proofs.Reading.{Well}
+use Rattle.words_layout.proofs.Reading.{Well, kinds-part, clock-part}
 use Rattle.words_layout.proofs.Changing.{Sized, well, sized, wide-set, and-then}
 use Rattle.table_drop.specs.Arriving.{operationOf}
 use Rattle.table_drop.specs.declared.Arrival.{Arrival}
@@ -41,10 +41,7 @@ pub early-is : (s : List ℕ) (n m : ℕ) (f : Sent) (v : Vector) (r : ℕ) → 
     r ≡ firstOf (frameRefusals (record { size = sizeIn s; own = ownIn s; capacity = capacityIn s; kinds = take (7 + m - 7) (drop 7 s) }) (take (clockAt + n - clockAt) (drop clockAt s)) (pieces (sizeIn s) (sizeIn s) (take (length s - (clockAt + n)) (drop (clockAt + n) s))) (frameFrom f v)) →
     r ≡ firstOf (frameRefusals (tableOf s .header) (tableOf s .clock) (tableOf s .last) (frameFrom f v))
 unfolding tableOf
-early-is s n m f v r en em e =
-    let p : 7 + m - 7 ≡ objectsIn s = omega arith in
-    let q : clockAt + n - clockAt ≡ sizeIn s = omega arith in
-    e ∙ rw (p, q, all-of s (clockAt + n), en) refl
+early-is s n m f v r en em e = e ∙ rw (kinds-part s m em, clock-part s n en, all-of s (clockAt + n), en) refl
 
 -- what arrives of a frame
 abbrev pub arrivalIn : Table → Sent → Arrival

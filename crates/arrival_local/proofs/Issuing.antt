@@ -21,6 +21,7 @@ use Rattle.meaning.proofs.TableFacts.{facts, every-place}
 use Rattle.words_layout.specs.Words.{padded}
 use Rattle.words_layout.specs.Layout.{holdsTable, tableOf, rewritten, sizeIn, ownIn, capacityIn, objectsIn, countIn, clockAt}
 use Rattle.words_layout.proofs.Whole.{zeros-drop, fit}
+use Rattle.words_layout.proofs.Reading.{kinds-part, clock-part}
 use Rattle.words_tags.specs.declared.Station.{Station}
 use Rattle.words_tags.specs.declared.Value.{Value}
 use Rattle.table_drop.specs.Arriving.{operationOf}
@@ -38,10 +39,7 @@ pub early-is : (s : List ℕ) (n m object code value r : ℕ) → n ≡ sizeIn s
     r ≡ firstOf (issueRefusals (record { size = sizeIn s; own = ownIn s; capacity = capacityIn s; kinds = take (7 + m - 7) (drop 7 s) }) (take (clockAt + n - clockAt) (drop clockAt s)) (localFrom object code value)) →
     r ≡ firstOf (issueRefusals (tableOf s .header) (tableOf s .clock) (localFrom object code value))
 unfolding tableOf
-early-is s n m object code value r en em e =
-    let p : 7 + m - 7 ≡ objectsIn s = omega arith in
-    let q : clockAt + n - clockAt ≡ sizeIn s = omega arith in
-    e ∙ rw (p, q) refl
+early-is s n m object code value r en em e = e ∙ rw (kinds-part s m em, clock-part s n en) refl
 
 numbered-chain : (header : Header) (clock : Vector) (local : Local) → every numbered (issueRefusals header clock local) ≡ true
 unfolding numbered issueRefusals
@@ -97,16 +95,12 @@ module _ (s : List ℕ) (C : Checked s) (n : ℕ) (en : n ≡ sizeIn s) where
   abbrev part : List ℕ
   part = take (clockAt + n - clockAt) (drop clockAt s)
 
-  part-is : part ≡ clock
-  unfolding tableOf
-  part-is = let q : clockAt + n - clockAt ≡ sizeIn s = omega arith in rw q refl
-
   clock-long : length clock ≡ sizeIn s
   unfolding tableOf
   clock-long = fit s (C .laid) .clock-long
 
   pub part-fits : 0 + length part ≤ greatestSize
-  part-fits = let l = ap length part-is ∙ clock-long in let f = C .few in omega arith
+  part-fits = let l = ap length (clock-part s n en) ∙ clock-long in let f = C .few in omega arith
 
   module _ (next : List ℕ) (e : next ≡ paste (replicate greatestSize 0) 0 part (length part)) where
     laid-out : next ≡ clock ++ replicate (greatestSize - length clock) 0
@@ -114,7 +108,7 @@ module _ (s : List ℕ) (C : Checked s) (n : ℕ) (en : n ≡ sizeIn s) where
         let f = C .few in
         let few : length clock ≤ greatestSize = rw clock-long f in
         let z : 0 + length clock ≡ length clock = omega arith in
-        e ∙ rw (part-is, take-all (length clock) clock (omega arith), z) (ap (λ (l : List ℕ). clock ++ l) (ap (drop (length clock)) (sym (append-nil (replicate greatestSize 0))) ∙ zeros-drop greatestSize (length clock) [] few ∙ append-nil (replicate (greatestSize - length clock) 0)))
+        e ∙ rw (clock-part s n en, take-all (length clock) clock (omega arith), z) (ap (λ (l : List ℕ). clock ++ l) (ap (drop (length clock)) (sym (append-nil (replicate greatestSize 0))) ∙ zeros-drop greatestSize (length clock) [] few ∙ append-nil (replicate (greatestSize - length clock) 0)))
 
     pub next-below : entryBelowLimit (tableOf s) (ownIn s) → getD next (ownIn s) 0 + 1 < entryLimit
     next-below h = rw (laid-out, get-front clock (replicate (greatestSize - length clock) 0) (ownIn s) (let o = C .own in let l = clock-long in omega arith)) h
