@@ -138,12 +138,12 @@ module _ (s : List ℕ) (n count : ℕ) (a : Arrival) (O : Opened s n count) (r 
   unfolding totalsWith totalsAfter
   total-none f = rw (sym e ∙ f) (O .laid .spelt)
 
-  module _ (t : r ≡ true) (one-word : a .high ≡ 0) where
-    totals-same : totalsChanged (a .object) (a .low) (eqb (a .code) 1) (tableOf s) ≡ totalsWith a (tableOf s)
+  module _ (t : r ≡ true) where
+    totals-same : totalsChanged (a .object) (a .value .0) (eqb (a .code) 1) (tableOf s) ≡ totalsWith a (tableOf s)
     unfolding totalsWith totalsAfter totalsChanged amountOf change
-    totals-same = let q : a .high * wordLimit + a .low ≡ a .low = omega arith in rw (sym e ∙ t, q) refl
+    totals-same = rw (sym e ∙ t) refl
 
-    pub total-changed : (s₁ : List ℕ) (o : ℕ) → o ≡ a .object → s₁ ≡ rewritten s (withTotals (tableOf s) (totalsChanged o (a .low) (eqb (a .code) 1) (tableOf s))) → s₁ ≡ rewritten s (withTotals (tableOf s) (totalsWith a (tableOf s)))
+    pub total-changed : (s₁ : List ℕ) (o : ℕ) → o ≡ a .object → s₁ ≡ rewritten s (withTotals (tableOf s) (totalsChanged o (a .value .0) (eqb (a .code) 1) (tableOf s))) → s₁ ≡ rewritten s (withTotals (tableOf s) (totalsWith a (tableOf s)))
     total-changed s₁ o q f = f ∙ rw q (ap (λ (totals : List ℤ). rewritten s (withTotals (tableOf s) totals)) totals-same)
 
 -- the kinds are as many as the objects

@@ -1,29 +1,17 @@
 -- What arrives of plain fields, and the operation that it is.
 use mathlib.Core.Path.{_≡_, refl, ap, _∙_}
 use mathlib.Core.List.{List}
-use Prim.Native.Nat.{ℕ, _+_, _-_, _*_}
-use native.Mathlib.Omega.{arith}
+use Prim.Native.Nat.{ℕ, _+_, _-_}
 use lib.ListN.{getD, take, drop}
-use Rattle.meaning.specs.Order.{Vector}
-use Rattle.meaning.specs.Operations.{Operation}
 use Rattle.meaning.specs.Table.{kindIn}
 use Rattle.words_layout.specs.Layout.{tableOf, objectsIn}
+use Rattle.words_layout.proofs.Reading.{kinds-part}
 use Rattle.words_tags.specs.declared.Station.{Station}
-use Rattle.table_drop.specs.Arriving.{operationOf}
+use Rattle.words_tags.specs.declared.Value.{Value}
 use Rattle.arrival.specs.Arrives.{arrivalFrom}
-use Rattle.words_layout.specs.Words.{wordLimit}
 
 -- the kind that is looked up is the kind that the table says
-pub arrival-made : (s : List ℕ) (m kind object code value : ℕ) (sender : Station) → m ≡ objectsIn s → kind ≡ getD (take (7 + m - 7) (drop 7 s)) object 0 →
+pub arrival-made : (s : List ℕ) (m kind object code : ℕ) (value : Value) (sender : Station) → m ≡ objectsIn s → kind ≡ getD (take (7 + m - 7) (drop 7 s)) object 0 →
     arrivalFrom kind object code value sender ≡ arrivalFrom (kindIn (tableOf s .header) object) object code value sender
-unfolding tableOf kindIn
-arrival-made s m kind object code value sender e f =
-    let q : 7 + m - 7 ≡ objectsIn s = omega arith in
-    let k : kind ≡ getD (take (objectsIn s) (drop 7 s)) object 0 = f ∙ rw q refl in
-    ap (λ (found : ℕ). arrivalFrom found object code value sender) k
-
--- a value of one word is that word
-pub operation-is : (kind object code value : ℕ) (sender : Station) (v : Vector) →
-    let u : Operation = record { object = object; code = code; value = value; sender = sender .0; vector = v } in
-    operationOf (arrivalFrom kind object code value sender) v ≡ u
-operation-is kind object code value sender v = let q : 0 * wordLimit + value ≡ value = omega arith in rw q refl
+unfolding kindIn
+arrival-made s m kind object code value sender e f = ap (λ (found : ℕ). arrivalFrom found object code value sender) (f ∙ rw (kinds-part s m e) refl)

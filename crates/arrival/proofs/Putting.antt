@@ -13,7 +13,7 @@ use Rattle.meaning.specs.Operations.{isCounter}
 use Rattle.meaning.specs.Rows.{Row}
 use Rattle.meaning.specs.Arrival.{getsRow, sameValue}
 use Rattle.words_layout.specs.Words.{pieces}
-use Rattle.words_layout.specs.Layout.{rowOf, tableOf, capacityIn, clockAt}
+use Rattle.words_layout.specs.Layout.{rowOf, tableOf, capacityIn, rowsAt}
 use Rattle.table_drop.specs.Arriving.{operationOf, isKept, puts, staying}
 use Rattle.table_drop.specs.declared.Arrival.{Arrival}
 use Rattle.table_drop.proofs.Dropping.{Place, place-start, place-next, ahead}
@@ -73,12 +73,6 @@ module _ (a : Arrival) where
 
 -- whether a row is put, in any kind
 module _ (s : List ℕ) (n count : ℕ) (a : Arrival) (v : Vector) (O : Opened s n count) (ic : Bool) (ec : ic ≡ isCounter (a .kind)) where
-  abbrev base : ℕ
-  base = clockAt + n + n * n
-
-  abbrev part : List ℕ
-  part = take (length s - base) (drop base s)
-
   abbrev put : Bool
   put = puts (a .kind) (operationOf a v) (tableOf s .rows)
 
@@ -87,10 +81,10 @@ module _ (s : List ℕ) (n count : ℕ) (a : Arrival) (v : Vector) (O : Opened s
   puts-counter t = rw (sym ec ∙ t) refl
 
   module _ (nc : ic ≡ false) (ik : Bool) (ek : ik ≡ isKept (a .kind)) where
-    pub puts-added : ik ≡ true → a .code ≡ 1 → (r : Bool) → r ≡ hasValue a v (7 + n) count part → not r ≡ put
+    pub puts-added : ik ≡ true → a .code ≡ 1 → (base : ℕ) → base ≡ rowsAt n → (r : Bool) → r ≡ hasValue a v (7 + n) count (take (length s - base) (drop base s)) → not r ≡ put
     unfolding puts hasValue tableOf
-    puts-added t e r f =
-        let g : r ≡ any (sameValue (operationOf a v)) (tableOf s .rows) = f ∙ rw (all-of s base, O .size-is, O .count-is) refl in
+    puts-added t e base start r f =
+        let g : r ≡ any (sameValue (operationOf a v)) (tableOf s .rows) = f ∙ rw (all-of s base, start, O .size-is, O .count-is) refl in
         rw (sym ec ∙ nc, sym ek ∙ t, eq-eqb (a .code) 1 e) (ap not g)
 
     pub puts-other : ik ≡ true → (a .code ≡ 1 → ⊥) → true ≡ put
@@ -102,9 +96,9 @@ module _ (s : List ℕ) (n count : ℕ) (a : Arrival) (v : Vector) (O : Opened s
     puts-tagged t r f = rw (sym ec ∙ nc, sym ek ∙ t) f
 
 -- room for the rows that are left, and for the one that is put
-module _ (s : List ℕ) (n count : ℕ) (a : Arrival) (v : Vector) (O : Opened s n count) (left : ℕ) (e : left ≡ length (staying a v (7 + n) count (take (length s - (clockAt + n + n * n)) (drop (clockAt + n + n * n) s)))) (r : Bool) (f : r ≡ puts (a .kind) (operationOf a v) (tableOf s .rows)) where
+module _ (s : List ℕ) (n count : ℕ) (a : Arrival) (v : Vector) (O : Opened s n count) (base : ℕ) (start : base ≡ rowsAt n) (left : ℕ) (e : left ≡ length (staying a v (7 + n) count (take (length s - base) (drop base s)))) (r : Bool) (f : r ≡ puts (a .kind) (operationOf a v) (tableOf s .rows)) where
   left-is : left ≡ length (rowsLeft a v (tableOf s))
-  left-is = left-count s n count a v O left e
+  left-is = left-count s n count a v O base start left e
 
   pub room-put : r ≡ true → ltb left (capacityIn s) ≡ hasRoom a v (tableOf s)
   unfolding hasRoom tableOf rowsLeft

@@ -13,18 +13,18 @@ use Rattle.meaning.specs.Table.{Table, kindIn}
 use Rattle.words_layout.specs.Words.{pieces}
 use Rattle.words_layout.specs.Layout.{tableOf, rowOf}
 use Rattle.words_tags.specs.declared.Station.{Station}
+use Rattle.words_tags.specs.declared.Value.{Value}
 use Rattle.table_drop.specs.Arriving.{operationOf}
 use Rattle.table_drop.specs.declared.Arrival.{Arrival}
 use Rattle.table_change.specs.Changes.{Opened, entryBelowLimit}
 
 -- What arrives of these fields: an operation on an object of this kind.
-abbrev pub arrivalFrom : ℕ → ℕ → ℕ → ℕ → Station → Arrival
+abbrev pub arrivalFrom : ℕ → ℕ → ℕ → Value → Station → Arrival
 arrivalFrom kind object code value sender = record {
   kind = kind;
   object = object;
   code = code;
-  high = 0;
-  low = value;
+  value = value;
   sender = sender;
 }
 
@@ -47,7 +47,6 @@ pub record Arrives (words : List ℕ) (size count : ℕ) (a : Arrival) (vector :
   pub entries : length vector ≡ size
   pub declared : a .object < length (tableOf words .header .kinds)
   pub kind-is : a .kind ≡ kindIn (tableOf words .header) (a .object)
-  pub one-word : a .high ≡ 0
   pub sender-in : a .sender .0 < size
   pub rises : entryBelowLimit (tableOf words) (a .sender .0)
   pub room : hasRoom a vector (tableOf words) ≡ true

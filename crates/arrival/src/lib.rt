@@ -19,23 +19,21 @@ use table_kinds::CLEARS;
 use table_kinds::ENABLE_WINS_FLAG;
 use table_kinds::REMOVES;
 use words_layout::CAPACITY_AT;
-use words_layout::CLOCK_AT;
 use words_layout::KEY;
 use words_layout::KINDS_AT;
+use words_layout::NO_HIGH;
 use words_layout::OBJECTS_AT;
 use words_layout::SETTLED;
 use words_layout::UNSETTLED;
 use words_tags::RowCount;
 use words_tags::Station;
+use words_tags::Value;
 
 // What stands for the sender and the number of a settled row, which has no tag.
 const NO_TAG: u32 = 0;
 
-// Values of 32 bits have no high word.
-const NO_HIGH: u32 = 0;
-
-// What arrives of an operation on an object of this table: its kind is looked up, and its value is one word.
-pub fn arrival_of(s: &[u32], object: u32, code: u32, value: u32, sender: Station) -> Arrival
+// What arrives of an operation on an object of this table: its kind is looked up.
+pub fn arrival_of(s: &[u32], object: u32, code: u32, value: Value, sender: Station) -> Arrival
     requires { ⌜ Laid (now s) × (clockAt ≤ length (now s)) ⌝ }
     ensures { λ r. ⌜ r ≡ arrivalFrom (kindIn (tableOf (now (s .entry)) .header) object) object code value sender ⌝ }
 {
@@ -44,8 +42,7 @@ pub fn arrival_of(s: &[u32], object: u32, code: u32, value: u32, sender: Station
         kind: table_kinds::kind_of(&s[KINDS_AT..end], object),
         object: object,
         code: code,
-        high: NO_HIGH,
-        low: value,
+        value: value,
         sender: sender,
     }
 }
@@ -94,7 +91,7 @@ fn puts_row(s: &[u32], size: usize, count: RowCount, a: Arrival, v: &[u32]) -> b
     }
     if table_drop::is_kept(a.kind) {
         if a.code == ADDS {
-            let base = CLOCK_AT + size + size * size;
+            let base = table_ranges::rows_at(size);
             return !has_value(&s[base..], KEY + size, count, a, v);
         }
         return true;
@@ -107,7 +104,7 @@ pub fn has_room(s: &[u32], size: usize, count: RowCount, a: Arrival, v: &[u32]) 
     requires { ⌜ Opened (now s) size (count .0) × (length (now v) ≡ size) ⌝ }
     ensures { λ r. ⌜ r ≡ hasRoom a (now (v .entry)) (tableOf (now (s .entry))) ⌝ }
 {
-    let base = CLOCK_AT + size + size * size;
+    let base = table_ranges::rows_at(size);
     let left = table_drop::count_left(&s[base..], KEY + size, count, a, v);
     if puts_row(s, size, count, a, v) {
         return left.0 < s[CAPACITY_AT];
@@ -124,8 +121,8 @@ fn put_unsettled(s: &mut [u32], size: usize, count: RowCount, a: Arrival, v: &[u
     let number = words_tags::number_at(v, sender);
     let key = [
         a.object,
-        a.high,
-        a.low,
+        NO_HIGH,
+        a.value.0,
         a.code,
         UNSETTLED,
         sender.0,
@@ -139,7 +136,15 @@ fn put_settled(s: &mut [u32], size: usize, count: RowCount, a: Arrival)
     requires { ⌜ Opened (now s) size (count .0) × (count .0 < capacityIn (now s)) ⌝ }
     ensures { λ _. ⌜ now (s .exit) ≡ rewritten (now (s .entry)) (withRows (tableOf (now (s .entry))) (insertRow (settledRow (operationOf a [])) (tableOf (now (s .entry)) .rows))) ⌝ }
 {
-    let key = [a.object, a.high, a.low, a.code, SETTLED, NO_TAG, NO_TAG];
+    let key = [
+        a.object,
+        NO_HIGH,
+        a.value.0,
+        a.code,
+        SETTLED,
+        NO_TAG,
+        NO_TAG,
+    ];
     let none = [0u32; meaning::MOST_STATIONS];
     table_change::put_row(s, size, count, &key, &none[0..size]);
 }
@@ -173,7 +178,7 @@ fn arrive_rows(s: &mut [u32], size: usize, count: RowCount, a: Arrival, v: &[u32
 
 // Changes the total of a counter; other kinds have none to change.
 fn arrive_total(s: &mut [u32], size: usize, count: RowCount, a: Arrival)
-    requires { ⌜ Opened (now s) size (count .0) × (a .object < objectsIn (now s)) × (a .high ≡ 0) ⌝ }
+    requires { ⌜ Opened (now s) size (count .0) × (a .object < objectsIn (now s)) ⌝ }
     ensures { λ _. ⌜ now (s .exit) ≡ rewritten (now (s .entry)) (withTotals (tableOf (now (s .entry))) (totalsWith a (tableOf (now (s .entry))))) ⌝ }
 {
     if table_kinds::is_counter(a.kind) {
@@ -182,7 +187,7 @@ fn arrive_total(s: &mut [u32], size: usize, count: RowCount, a: Arrival)
             size,
             count,
             words_tags::wide(a.object),
-            a.low,
+            a.value.0,
             a.code == ADDS,
         );
     }

@@ -21,7 +21,7 @@ use Rattle.meaning.proofs.TableFacts.{facts, every-place}
 use Rattle.words_layout.specs.Words.{pieces}
 use Rattle.words_layout.specs.Layout.{holdsTable, tableOf, rewritten, sizeIn, ownIn, capacityIn, objectsIn, countIn, rowsIn, rowsAt, rowOf, withLast, clockAt}
 use Rattle.words_layout.proofs.Pieces.{length-pieces}
-use Rattle.words_layout.proofs.Reading.{Well}
+use Rattle.words_layout.proofs.Reading.{Well, kinds-part, clock-part}
 use Rattle.words_layout.proofs.Changing.{Sized, well, sized, wide-set, and-then}
 use Rattle.table_drop.specs.Arriving.{operationOf}
 use Rattle.table_drop.specs.declared.Arrival.{Arrival}
@@ -31,7 +31,6 @@ use Rattle.table_rules.specs.Checked.{Checked}
 use Rattle.arrival.specs.Arrives.{Arrives, arrivalFrom, hasRoom}
 use Rattle.arrival.proofs.Arriving.{opened-again, spells}
 use Rattle.arrival.proofs.Kept.{table-back, table-held}
-use Rattle.arrival.proofs.Made.{operation-is}
 use Rattle.arrival.proofs.Chain.{numbered, chain-then}
 use Rattle.refusal_order.specs.Fields.{frameFrom}
 use Rattle.refusal_order.specs.declared.Sent.{Sent}
@@ -42,21 +41,15 @@ pub early-is : (s : List ℕ) (n m : ℕ) (f : Sent) (v : Vector) (r : ℕ) → 
     r ≡ firstOf (frameRefusals (record { size = sizeIn s; own = ownIn s; capacity = capacityIn s; kinds = take (7 + m - 7) (drop 7 s) }) (take (clockAt + n - clockAt) (drop clockAt s)) (pieces (sizeIn s) (sizeIn s) (take (length s - (clockAt + n)) (drop (clockAt + n) s))) (frameFrom f v)) →
     r ≡ firstOf (frameRefusals (tableOf s .header) (tableOf s .clock) (tableOf s .last) (frameFrom f v))
 unfolding tableOf
-early-is s n m f v r en em e =
-    let p : 7 + m - 7 ≡ objectsIn s = omega arith in
-    let q : clockAt + n - clockAt ≡ sizeIn s = omega arith in
-    e ∙ rw (p, q, all-of s (clockAt + n), en) refl
+early-is s n m f v r en em e = e ∙ rw (kinds-part s m em, clock-part s n en, all-of s (clockAt + n), en) refl
 
 -- what arrives of a frame
 abbrev pub arrivalIn : Table → Sent → Arrival
 arrivalIn table f = arrivalFrom (kindIn (table .header) (f .object)) (f .object) (f .code) (f .value) (f .sender)
 
-arrival-is : (table : Table) (f : Sent) (v : Vector) → operationOf (arrivalIn table f) v ≡ frameFrom f v .operation
-arrival-is table f v = operation-is (kindIn (table .header) (f .object)) (f .object) (f .code) (f .value) (f .sender) v
-
 room-same : (table : Table) (f : Sent) (v : Vector) → hasRoom (arrivalIn table f) v table ≡ roomFor table (frameFrom f v .operation)
 unfolding hasRoom roomFor
-room-same table f v = rw (arrival-is table f v) refl
+room-same table f v = refl
 
 -- every number of the chain is one
 numbered-chain : (header : Header) (clock : Vector) (last : List Vector) (frame : Frame) → every numbered (frameRefusals header clock last frame) ≡ true
@@ -148,7 +141,6 @@ module _ (s : List ℕ) (n : ℕ) (f : Sent) (v : Vector) (C : Checked s) (long 
       entries = long ∙ sym en;
       declared = rw table-is (A .declared-object);
       kind-is = rw table-is refl;
-      one-word = refl;
       sender-in = sender-below;
       rises = rw table-is rises;
       room = rw table-is room;
@@ -162,7 +154,7 @@ module _ (s : List ℕ) (n : ℕ) (f : Sent) (v : Vector) (C : Checked s) (long 
       unfolding afterArrival
       frame-taken q s₂ g =
           and-then s s₁ s₂ heard (λ (t : Table). afterArrival t (operationOf a v) (t .last)) heard-well heard-sized e g
-          ∙ ap (λ (u : Operation). rewritten s (afterArrival heard u (heard .last))) (ap (λ (x : Arrival). operationOf x v) ea ∙ arrival-is table f v)
+          ∙ ap (λ (u : Operation). rewritten s (afterArrival heard u (heard .last))) (ap (λ (x : Arrival). operationOf x v) ea)
           ∙ ap (λ (m : ℕ). rewritten s (afterArrival table (frame .operation) (set (table .last) m v))) q
 
 -- the number and the words

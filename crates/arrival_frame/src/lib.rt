@@ -44,11 +44,12 @@ pub fn frame_number(s: &[u32], f: Sent, v: &[u32]) -> u32
     let size = words_tags::wide(s[SIZE_AT]);
     let count = RowCount(s[COUNT_AT]);
     let sender = f.sender;
+    let value = f.value;
     let early = early_number(s, size, f, v);
     if early != NONE {
         return early;
     }
-    let a = arrival::arrival_of(s, f.object, f.code, f.value, sender);
+    let a = arrival::arrival_of(s, f.object, f.code, value, sender);
     if arrival::has_room(s, size, count, a, v) {
         return NONE;
     }
@@ -63,7 +64,8 @@ pub fn take_frame(s: &mut [u32], f: Sent, v: &[u32])
     let size = words_tags::wide(s[SIZE_AT]);
     let count = RowCount(s[COUNT_AT]);
     let sender = f.sender;
-    let a = arrival::arrival_of(s, f.object, f.code, f.value, sender);
+    let value = f.value;
+    let a = arrival::arrival_of(s, f.object, f.code, value, sender);
     table_change::write_last(s, size, count, sender, v);
     arrival::arrive(s, size, count, a, v);
 }

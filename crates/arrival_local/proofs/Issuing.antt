@@ -21,7 +21,9 @@ use Rattle.meaning.proofs.TableFacts.{facts, every-place}
 use Rattle.words_layout.specs.Words.{padded}
 use Rattle.words_layout.specs.Layout.{holdsTable, tableOf, rewritten, sizeIn, ownIn, capacityIn, objectsIn, countIn, clockAt}
 use Rattle.words_layout.proofs.Whole.{zeros-drop, fit}
+use Rattle.words_layout.proofs.Reading.{kinds-part, clock-part}
 use Rattle.words_tags.specs.declared.Station.{Station}
+use Rattle.words_tags.specs.declared.Value.{Value}
 use Rattle.table_drop.specs.Arriving.{operationOf}
 use Rattle.table_drop.specs.declared.Arrival.{Arrival}
 use Rattle.table_change.specs.Changes.{entryBelowLimit}
@@ -29,7 +31,6 @@ use Rattle.table_change.proofs.Changing.{opened}
 use Rattle.table_rules.specs.Checked.{Checked}
 use Rattle.arrival.specs.Arrives.{Arrives, arrivalFrom, hasRoom}
 use Rattle.arrival.proofs.Kept.{table-back, table-held}
-use Rattle.arrival.proofs.Made.{operation-is}
 use Rattle.arrival.proofs.Chain.{numbered, chain-then}
 use Rattle.refusal_order.specs.Fields.{localFrom}
 
@@ -38,10 +39,7 @@ pub early-is : (s : List ℕ) (n m object code value r : ℕ) → n ≡ sizeIn s
     r ≡ firstOf (issueRefusals (record { size = sizeIn s; own = ownIn s; capacity = capacityIn s; kinds = take (7 + m - 7) (drop 7 s) }) (take (clockAt + n - clockAt) (drop clockAt s)) (localFrom object code value)) →
     r ≡ firstOf (issueRefusals (tableOf s .header) (tableOf s .clock) (localFrom object code value))
 unfolding tableOf
-early-is s n m object code value r en em e =
-    let p : 7 + m - 7 ≡ objectsIn s = omega arith in
-    let q : clockAt + n - clockAt ≡ sizeIn s = omega arith in
-    e ∙ rw (p, q) refl
+early-is s n m object code value r en em e = e ∙ rw (kinds-part s m em, clock-part s n en) refl
 
 numbered-chain : (header : Header) (clock : Vector) (local : Local) → every numbered (issueRefusals header clock local) ≡ true
 unfolding numbered issueRefusals
@@ -97,16 +95,12 @@ module _ (s : List ℕ) (C : Checked s) (n : ℕ) (en : n ≡ sizeIn s) where
   abbrev part : List ℕ
   part = take (clockAt + n - clockAt) (drop clockAt s)
 
-  part-is : part ≡ clock
-  unfolding tableOf
-  part-is = let q : clockAt + n - clockAt ≡ sizeIn s = omega arith in rw q refl
-
   clock-long : length clock ≡ sizeIn s
   unfolding tableOf
   clock-long = fit s (C .laid) .clock-long
 
   pub part-fits : 0 + length part ≤ greatestSize
-  part-fits = let l = ap length part-is ∙ clock-long in let f = C .few in omega arith
+  part-fits = let l = ap length (clock-part s n en) ∙ clock-long in let f = C .few in omega arith
 
   module _ (next : List ℕ) (e : next ≡ paste (replicate greatestSize 0) 0 part (length part)) where
     laid-out : next ≡ clock ++ replicate (greatestSize - length clock) 0
@@ -114,7 +108,7 @@ module _ (s : List ℕ) (C : Checked s) (n : ℕ) (en : n ≡ sizeIn s) where
         let f = C .few in
         let few : length clock ≤ greatestSize = rw clock-long f in
         let z : 0 + length clock ≡ length clock = omega arith in
-        e ∙ rw (part-is, take-all (length clock) clock (omega arith), z) (ap (λ (l : List ℕ). clock ++ l) (ap (drop (length clock)) (sym (append-nil (replicate greatestSize 0))) ∙ zeros-drop greatestSize (length clock) [] few ∙ append-nil (replicate (greatestSize - length clock) 0)))
+        e ∙ rw (clock-part s n en, take-all (length clock) clock (omega arith), z) (ap (λ (l : List ℕ). clock ++ l) (ap (drop (length clock)) (sym (append-nil (replicate greatestSize 0))) ∙ zeros-drop greatestSize (length clock) [] few ∙ append-nil (replicate (greatestSize - length clock) 0)))
 
     pub next-below : entryBelowLimit (tableOf s) (ownIn s) → getD next (ownIn s) 0 + 1 < entryLimit
     next-below h = rw (laid-out, get-front clock (replicate (greatestSize - length clock) 0) (ownIn s) (let o = C .own in let l = clock-long in omega arith)) h
@@ -136,16 +130,16 @@ module _ (s : List ℕ) (C : Checked s) (n : ℕ) (en : n ≡ sizeIn s) (next : 
   vector-long = rw vector-is raised-long
 
   -- what arrives of a local operation
-  module _ (object code value : ℕ) (own : Station) (eo : own .0 ≡ ownIn s) (a : Arrival) (ea : a ≡ arrivalFrom (kindIn (tableOf s .header) object) object code value own) where
+  module _ (object code : ℕ) (value : Value) (own : Station) (eo : own .0 ≡ ownIn s) (a : Arrival) (ea : a ≡ arrivalFrom (kindIn (tableOf s .header) object) object code value own) where
     abbrev table : Table
     table = tableOf s
 
     abbrev local : Local
-    local = localFrom object code value
+    local = localFrom object code (value .0)
 
     issued-is : operationOf a (take (n - 0) next) ≡ issuedBy table local
     unfolding issuedBy tableOf
-    issued-is = rw (ea, vector-is) (operation-is (kindIn (table .header) object) object code value own (raised (table .clock) (ownIn s)) ∙ rw eo refl)
+    issued-is = rw (ea, vector-is) (rw eo refl)
 
     room-same : hasRoom a (take (n - 0) next) table ≡ roomFor table (issuedBy table local)
     unfolding hasRoom roomFor issuedBy
@@ -175,9 +169,8 @@ module _ (s : List ℕ) (C : Checked s) (n : ℕ) (en : n ≡ sizeIn s) (next : 
         entries = vector-long;
         declared = rw ea (A .declared-object);
         kind-is = rw ea refl;
-        one-word = rw ea refl;
         sender-in = rw (ea, eo, en) (C .own);
-        rises = rw (ea, eo) (rises-accepted s C object code value ok);
+        rises = rw (ea, eo) (rises-accepted s C object code (value .0) ok);
         room = room-same ∙ le-leb (length (rowsAfter (kindIn (table .header) object) (issuedBy table local) (table .rows))) (table .header .capacity) (A .room);
       }
 

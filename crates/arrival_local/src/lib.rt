@@ -22,11 +22,12 @@ use words_layout::OWN_AT;
 use words_layout::SIZE_AT;
 use words_tags::RowCount;
 use words_tags::Station;
+use words_tags::Value;
 
 // The first refusal of 3, 4 and 9, which ask the header and D alone.
-fn early_number(s: &[u32], size: usize, object: u32, code: u32, value: u32) -> u32
+fn early_number(s: &[u32], size: usize, object: u32, code: u32, value: Value) -> u32
     requires { ⌜ Checked (now s) × (size ≡ sizeIn (now s)) ⌝ }
-    ensures { λ r. ⌜ r ≡ firstOf (issueRefusals (tableOf (now (s .entry)) .header) (tableOf (now (s .entry)) .clock) (localFrom object code value)) ⌝ }
+    ensures { λ r. ⌜ r ≡ firstOf (issueRefusals (tableOf (now (s .entry)) .header) (tableOf (now (s .entry)) .clock) (localFrom object code (value .0))) ⌝ }
 {
     let h = Header {
         size: s[SIZE_AT],
@@ -59,9 +60,9 @@ pub fn next_vector(s: &[u32]) -> [u32; meaning::MOST_STATIONS]
 }
 
 // The number that a local operation gets, but for 10: 3, 4 and 9, then 8; nothing is changed.
-pub fn issue_number(s: &[u32], object: u32, code: u32, value: u32) -> u32
+pub fn issue_number(s: &[u32], object: u32, code: u32, value: Value) -> u32
     requires { ⌜ Checked (now s) ⌝ }
-    ensures { λ r. ⌜ r ≡ refusalOfLocal (tableOf (now (s .entry))) (localFrom object code value) ⌝ }
+    ensures { λ r. ⌜ r ≡ refusalOfLocal (tableOf (now (s .entry))) (localFrom object code (value .0)) ⌝ }
 {
     let size = words_tags::wide(s[SIZE_AT]);
     let count = RowCount(s[COUNT_AT]);
@@ -79,9 +80,9 @@ pub fn issue_number(s: &[u32], object: u32, code: u32, value: u32) -> u32
 }
 
 // Takes an accepted local operation: it arrives with its vector, and L stays.
-pub fn take_local(s: &mut [u32], object: u32, code: u32, value: u32)
-    requires { ⌜ Checked (now s) × (refusalOfLocal (tableOf (now s)) (localFrom object code value) ≡ 0) ⌝ }
-    ensures { λ _. ⌜ now (s .exit) ≡ rewritten (now (s .entry)) (afterArrival (tableOf (now (s .entry))) (issuedBy (tableOf (now (s .entry))) (localFrom object code value)) (tableOf (now (s .entry)) .last)) ⌝ }
+pub fn take_local(s: &mut [u32], object: u32, code: u32, value: Value)
+    requires { ⌜ Checked (now s) × (refusalOfLocal (tableOf (now s)) (localFrom object code (value .0)) ≡ 0) ⌝ }
+    ensures { λ _. ⌜ now (s .exit) ≡ rewritten (now (s .entry)) (afterArrival (tableOf (now (s .entry))) (issuedBy (tableOf (now (s .entry))) (localFrom object code (value .0))) (tableOf (now (s .entry)) .last)) ⌝ }
 {
     let size = words_tags::wide(s[SIZE_AT]);
     let count = RowCount(s[COUNT_AT]);

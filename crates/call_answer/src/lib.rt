@@ -11,6 +11,7 @@ use call_checked::Received;
 use call_checked::Settled;
 use line_put::Written;
 use refusal_number::UNOPENED;
+use words_tags::Value;
 
 // How many characters a byte has, and how many bytes `00` is.
 const CHARACTERS: usize = 2;
@@ -72,7 +73,7 @@ fn answer_question(space: &[u32], line: &[u8], out: &mut [u8]) -> Written
             space,
             asked.object,
             asked.question,
-            asked.value,
+            Value(asked.value),
             out,
         );
     }

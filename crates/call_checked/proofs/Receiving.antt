@@ -76,7 +76,7 @@ module _ (words : List ℕ) (f : Operation) where
 
     -- the frame that is taken is the line's
     abbrev sent : Sent
-    sent = record { sender = record { 0 = f .sender }; object = f .object; code = f .code; value = f .value }
+    sent = record { sender = record { 0 = f .sender }; object = f .object; code = f .code; value = record { 0 = f .value } }
 
     frame-same : frameFrom sent (take (end - 0) (f .vector)) ≡ frameOf f
     unfolding frameOf

@@ -16,6 +16,7 @@ use refusal_order::Header;
 use refusal_order::Sent;
 use words_tags::RowCount;
 use words_tags::Station;
+use words_tags::Value;
 
 // What an opening answers: a refusal's number, or nothing but that the table is fresh.
 pub enum Opened {
@@ -85,7 +86,7 @@ fn receive_read(space: &mut [u32], f: line_read::Operation) -> Received
         sender: Station(f.sender),
         object: f.object,
         code: f.code,
-        value: f.value,
+        value: Value(f.value),
     };
     let end = words_tags::wide(f.stations);
     let vector = f.vector;
@@ -113,7 +114,7 @@ fn issue_read(space: &mut [u32], f: line_read::Issue, out: &mut [u8]) -> Issued
     requires { ⌜ Checked (now space) ⌝ }
     ensures { λ r. ⌜ (r, (now (space .exit), now (out .exit))) ≡ issuedAs (now (space .entry)) (now (out .entry)) (issue (tableOf (now (space .entry))) (localOf f)) ⌝ }
 {
-    let refusal = arrival_local::issue_number(space, f.object, f.code, f.value);
+    let refusal = arrival_local::issue_number(space, f.object, f.code, Value(f.value));
     if refusal != refusal_number::NONE {
         return Issued::Refused(refusal);
     }
@@ -122,7 +123,7 @@ fn issue_read(space: &mut [u32], f: line_read::Issue, out: &mut [u8]) -> Issued
     let vector = arrival_local::next_vector(space);
     match line_print::write_operation(out, own, f.object, f.code, f.value, &vector[0..size]) {
         Written::Characters(n) => {
-            arrival_local::take_local(space, f.object, f.code, f.value);
+            arrival_local::take_local(space, f.object, f.code, Value(f.value));
             Issued::Frame(n)
         }
         Written::TooShort => Issued::Refused(NO_ROOM),
@@ -160,7 +161,7 @@ pub fn ask_line(space: &[u32], line: &[u8], out: &mut [u32]) -> Reply
 {
     let asked = line_decode::question(line);
     if asked.ok {
-        return question::ask_table(space, asked.object, asked.question, asked.value, out);
+        return question::ask_table(space, asked.object, asked.question, Value(asked.value), out);
     }
     Reply::Refused(MISSHAPEN)
 }

@@ -54,7 +54,7 @@ module _ (s : List ℕ) (o : ℕ) (out₀ : List ℕ) (at : ℕ) (out : List ℕ
     value-left = omega (arith, N .number)
 
     abbrev value : ℕ
-    value = nextValue passed o (tableOf s) .value
+    value = nextValue passed o (tableOf s) .value .0
 
     abbrev rest : List ℕ
     rest = valuesBehind (nextValue passed o (tableOf s) .passed .0) o (tableOf s)
@@ -65,9 +65,9 @@ module _ (s : List ℕ) (o : ℕ) (out₀ : List ℕ) (at : ℕ) (out : List ℕ
     pub value-room : to + 2 * 4 ≤ length out
     value-room = omega (arith, laying-room out₀ at (writtenEach 4 (listed s o)) out to (writtenEach 4 (valuesBehind passed o (tableOf s))) (N .laying) (bigEndian 4 value) (writtenEach 4 rest) next-bytes, length-bigEndian 4 value)
 
-    pub valuing-next : (f : Found) → f ≡ nextValue passed o (tableOf s) → (to′ : ℕ) (out′ : List ℕ) → (to′, out′) ≡ putAt out to (bigEndian 4 (f .value)) → Valuing s o out₀ at out′ (f .passed .0) to′ (left - 1)
+    pub valuing-next : (f : Found) → f ≡ nextValue passed o (tableOf s) → (to′ : ℕ) (out′ : List ℕ) → (to′, out′) ≡ putAt out to (bigEndian 4 (f .value .0)) → Valuing s o out₀ at out′ (f .passed .0) to′ (left - 1)
     valuing-next f e to′ out′ p =
         record {
-          laying = rw e (laying-turn out₀ at (writtenEach 4 (listed s o)) out to (writtenEach 4 (valuesBehind passed o (tableOf s))) (N .laying) (bigEndian 4 value) (writtenEach 4 rest) out′ to′ next-bytes (p ∙ ap (λ (g : Found). putAt out to (bigEndian 4 (g .value))) e));
+          laying = rw e (laying-turn out₀ at (writtenEach 4 (listed s o)) out to (writtenEach 4 (valuesBehind passed o (tableOf s))) (N .laying) (bigEndian 4 value) (writtenEach 4 rest) out′ to′ next-bytes (p ∙ ap (λ (g : Found). putAt out to (bigEndian 4 (g .value .0))) e));
           number = rw e (omega (arith, ap (λ (l : List ℕ). length l) (next-left passed o (tableOf s) value-left), N .number));
         }

@@ -16,6 +16,7 @@ use line_put::Written;
 use line_shape::FOUR;
 use question::Reply;
 use words_tags::RowCount;
+use words_tags::Value;
 
 // How many bytes stand before the values of a list: the type and the count.
 const HEAD: usize = 3;
@@ -43,7 +44,7 @@ fn put_values(s: &[u32], object: u32, count: RowCount, out: &mut [u8], at: usize
     let mut left = count.0;
     while 0 < left {
         let found = question_list::next_value(s, object, RowCount(passed));
-        to = line_hex::put_number(out, to, found.value, FOUR);
+        to = line_hex::put_number(out, to, found.value.0, FOUR);
         passed = found.passed.0;
         left -= 1;
     }
@@ -66,9 +67,15 @@ fn write_list(s: &[u32], object: u32, count: RowCount, out: &mut [u8]) -> Writte
 }
 
 // Writes the answer to a question. It is asked with no room for a list: 11 then brings the count with which the list is written.
-pub fn answer_question(s: &[u32], object: u32, question: u32, value: u32, out: &mut [u8]) -> Written
+pub fn answer_question(
+    s: &[u32],
+    object: u32,
+    question: u32,
+    value: Value,
+    out: &mut [u8],
+) -> Written
     requires { ⌜ Checked (now s) ⌝ }
-    ensures { λ r. ⌜ (r, now (out .exit)) ≡ lineWritten (now (out .entry)) (replyBytes (ask (tableOf (now (s .entry))) mostRows (askedFrom object question value))) ⌝ }
+    ensures { λ r. ⌜ (r, now (out .exit)) ≡ lineWritten (now (out .entry)) (replyBytes (ask (tableOf (now (s .entry))) mostRows (askedFrom object question (value .0)))) ⌝ }
 {
     let mut none = [0u32; 1];
     match question::ask_table(s, object, question, value, &mut none[0..0]) {

@@ -12,7 +12,7 @@ use lib.ListN.{getD, length}
 use borrow.Author.Tests.{ltb-true, leb-true, eqb-true, lt-ltb, le-leb, eq-eqb, ne-eqb}
 use Rattle.meaning.specs.Tests.{every, everyAt, between}
 use Rattle.meaning.specs.Order.{Vector, entryLimit, atMost, same, othersOf, lowOf}
-use Rattle.meaning.specs.Operations.{Operation, numberOf, valueAllowed}
+use Rattle.meaning.specs.Operations.{Operation, numberOf, isCounter, isFlag, clears, valueAllowed, valueLimit, greatestAmount}
 use Rattle.meaning.specs.Rows.{Row, settledRow, inOrder}
 use Rattle.meaning.specs.Table.{Header, Table, kindIn, low, headerRules, inRange, clockRule, lastRule, lastsRule, totalRule, totalsRule, storable, settledOnly, tagRule, rowRule, oneRowAValue, tableRules, isTable, greatestSize, greatestCapacity, mostObjects}
 use Rattle.meaning.proofs.Tests.{cases, and-left, and-right, and-both, fails-not, not-holds, or-cases, or-left, or-right, every-out, every-in, every-at, at-every, rule-at, between-out}
@@ -220,3 +220,15 @@ low-below table is vector e =
     (low-under vector (table .clock) (othersOf own (table .last)) e (others-mem own (other .0) (table .last) (other .2) (other .1)))
     (last-below table is (other .0) (let l = F .last-length in let h = other .1 in omega arith) (other .2)))
     (others-first own (table .last))
+
+-- "Other values are any 32-bit number"
+value-small : (kind code value : ℕ) → valueAllowed kind code value ≡ true → value < valueLimit
+unfolding valueAllowed
+value-small kind code value h = cases (isCounter kind)
+    (λ q. omega (arith, between-out 1 greatestAmount value (rw q at h) .1))
+    (λ q. let h1 = rw q at h in cases (isFlag kind || eqb code clears)
+    (λ p. omega (arith, eqb-true value 0 (rw p at h1)))
+    (λ p. ltb-true value valueLimit (rw p at h1)))
+
+pub row-small : (table : Table) → isTable table ≡ true → (row : Row) → List·Memᴰ row (table .rows) → row .operation .value < valueLimit
+row-small table h row m = value-small (kindIn (table .header) (row .operation .object)) (row .operation .code) (row .operation .value) (facts table h .row-facts row m .value-allowed)

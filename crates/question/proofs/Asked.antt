@@ -17,6 +17,7 @@ use Rattle.meaning.specs.Refusals.{_when_, firstOf, declared, wellAsked, listTo
 use Rattle.meaning.specs.Calls.{Reply, refused, tooLong, answered, replyOf, askOf, ask}
 use Rattle.words_layout.specs.Layout.{tableOf, objectsIn, sizeIn, countIn, totalWords, totalOfWords, totalsAt}
 use Rattle.words_layout.proofs.RowWords.{high-of, low-of}
+use Rattle.words_layout.proofs.Reading.{kinds-part}
 use Rattle.words_layout.proofs.Spelling.{code-read}
 use Rattle.table_change.proofs.Changing.{opened}
 use Rattle.table_change.proofs.Totals.{old-total}
@@ -102,12 +103,8 @@ module _ (s : List ℕ) (K : Checked s) (object question value n : ℕ) (en : n 
   abbrev reply : Reply
   reply = ask t (length out) (askedFrom object question value)
 
-  kinds-are : take (7 + n - 7) (drop 7 s) ≡ t .header .kinds
-  unfolding tableOf
-  kinds-are = let e : 7 + n - 7 ≡ objectsIn s = omega arith in rw e refl
-
   first-is : firstOf (askedRefusals (t .header) (askedFrom object question value)) ≡ refusal
-  first-is = rw (asked-by-kinds (t .header) (askedFrom object question value), sym kinds-are) (sym er)
+  first-is = rw (asked-by-kinds (t .header) (askedFrom object question value), sym (kinds-part s n en)) (sym er)
 
   pub refused-replied : (refusal ≡ 0 → ⊥) → (says.Refused refusal, out) ≡ replied reply out
   unfolding ask replied

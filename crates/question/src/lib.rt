@@ -15,6 +15,7 @@ use words_layout::OBJECTS_AT;
 use words_layout::TOTAL_WORDS;
 use words_layout::TOTALS_AT;
 use words_tags::RowCount;
+use words_tags::Value;
 
 // What a question gets: a refusal by its number, 11 with the needed count, or the answer; a list stands in the space, and its length here.
 pub enum Reply {
@@ -53,9 +54,9 @@ fn list_reply(s: &[u32], object: u32, out: &mut [u32]) -> Reply
 }
 
 // A question to a table: refusals 1, 3 and 12, then 11, or its answer.
-pub fn ask_table(s: &[u32], object: u32, question: u32, value: u32, out: &mut [u32]) -> Reply
+pub fn ask_table(s: &[u32], object: u32, question: u32, value: Value, out: &mut [u32]) -> Reply
     requires { ⌜ Checked (now s) ⌝ }
-    ensures { λ r. ⌜ (r, now (out .exit)) ≡ replied (ask (tableOf (now (s .entry))) (length (now (out .entry))) (askedFrom object question value)) (now (out .entry)) ⌝ }
+    ensures { λ r. ⌜ (r, now (out .exit)) ≡ replied (ask (tableOf (now (s .entry))) (length (now (out .entry))) (askedFrom object question (value .0))) (now (out .entry)) ⌝ }
 {
     let end = KINDS_AT + words_tags::wide(s[OBJECTS_AT]);
     let refusal = refusal_order::question_refusal(&s[KINDS_AT..end], object, question, value);
@@ -67,7 +68,7 @@ pub fn ask_table(s: &[u32], object: u32, question: u32, value: u32, out: &mut [u
         return Reply::Total(total.0, total.1);
     }
     if question == refusal_kind::ASKS_FLAG {
-        return Reply::Flag(question_list::is_in(s, object, ON));
+        return Reply::Flag(question_list::is_in(s, object, Value(ON)));
     }
     if question == refusal_kind::ASKS_LIST {
         return list_reply(s, object, out);

@@ -27,7 +27,7 @@ first-shown o (row ∷ rows) h = cases (shows o row rows)
     (λ q. let e : suc (beforeShown o rows) + 1 ≡ suc (beforeShown o rows + 1) = omega arith in rw (q, e) (first-shown o rows (rw q at h)))
 
 -- A walk: what is left is the next value and what is left behind it.
-pub next-left : (passed o : ℕ) (table : Table) → 0 < length (valuesBehind passed o table) → valuesBehind passed o table ≡ nextValue passed o table .value ∷ valuesBehind (nextValue passed o table .passed .0) o table
+pub next-left : (passed o : ℕ) (table : Table) → 0 < length (valuesBehind passed o table) → valuesBehind passed o table ≡ nextValue passed o table .value .0 ∷ valuesBehind (nextValue passed o table .passed .0) o table
 unfolding valuesBehind nextValue
 next-left passed o table h =
     let rows = drop passed (table .rows) in
@@ -79,17 +79,17 @@ module _ (s : List ℕ) (o : ℕ) (out₀ out : List ℕ) (passed to left : ℕ)
     pub to-within : to < length out
     to-within = omega (arith, W .room, W .sized)
 
-    pub writing-next : (f : Found) → f ≡ nextValue passed o (tableOf s) → Writing s o out₀ (set out to (f .value)) (f .passed .0) (to + 1) (left - 1)
+    pub writing-next : (f : Found) → f ≡ nextValue passed o (tableOf s) → Writing s o out₀ (set out to (f .value .0)) (f .passed .0) (to + 1) (left - 1)
     writing-next f e =
         let next = next-left passed o (tableOf s) one-left in
         let many : left ≡ suc (left - 1) = omega arith in
         let behind : to + 1 + (left - 1) ≡ to + left = omega arith in
         rw e (record {
-          sized = length-set out to (nextValue passed o (tableOf s) .value) ∙ W .sized;
+          sized = length-set out to (nextValue passed o (tableOf s) .value .0) ∙ W .sized;
           room = omega (arith, W .room);
           number = omega (arith, ap (λ (l : List ℕ). length l) next, W .number);
           whole =
-              W .whole ∙ rw (behind, add-one to, take-suc-set out to (nextValue passed o (tableOf s) .value) to-within, drop-set-lt (to + left) out to (nextValue passed o (tableOf s) .value) (omega arith))
+              W .whole ∙ rw (behind, add-one to, take-suc-set out to (nextValue passed o (tableOf s) .value .0) to-within, drop-set-lt (to + left) out to (nextValue passed o (tableOf s) .value .0) (omega arith))
               (ap (λ (l : List ℕ). take to out ++ (l ++ drop (to + left) out)) next
-              ∙ sym (append-snoc (take to out) (nextValue passed o (tableOf s) .value) (valuesBehind (nextValue passed o (tableOf s) .passed .0) o (tableOf s) ++ drop (to + left) out)));
+              ∙ sym (append-snoc (take to out) (nextValue passed o (tableOf s) .value .0) (valuesBehind (nextValue passed o (tableOf s) .passed .0) o (tableOf s) ++ drop (to + left) out)));
         })

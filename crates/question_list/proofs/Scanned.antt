@@ -9,29 +9,32 @@ use mir.Syntax.{w64}
 use lib.ListN.{length, take, drop, length-drop}
 use lib.Seq.{take-all}
 use Rattle.meaning.specs.Rows.{Row}
+use Rattle.meaning.specs.Table.{greatestSize}
 use Rattle.meaning.specs.Questions.{byRows}
 use Rattle.words_layout.specs.Words.{pieces}
-use Rattle.words_layout.specs.Layout.{tableOf, rowOf, rowsAt, rowWidth, sizeIn, countIn, clockAt}
+use Rattle.words_layout.specs.Layout.{tableOf, rowOf, rowsAt, rowWidth, sizeIn, countIn}
 use Rattle.table_rules.specs.Checked.{Checked}
 use Rattle.question_scan.specs.Showing.{countShown, valueShown}
 use Rattle.question_scan.proofs.Tabled.{table-count, table-in}
 
--- the size, read as a place
+-- where the rows start is a number that fits
 module _ (s : List ℕ) (K : Checked s) (n : ℕ) (e : n ≡ sizeIn s) where
-  square-small : n * n ≤ 256
+  square-small : n * n ≤ greatestSize * greatestSize
   square-small = rw e (K .square)
 
   pub square-fits : Fits w64 (n * n)
   square-fits = omega (arith, square-small)
 
-  pub start-fits : Fits w64 (clockAt + n + n * n)
+  pub start-fits : Fits w64 (rowsAt n)
   start-fits = omega (arith, square-small, K .few, e)
 
-  pub start-is : clockAt + n + n * n ≡ rowsAt (sizeIn s)
-  start-is = rw e refl
+-- the size, read as a place
+module _ (s : List ℕ) (K : Checked s) (n : ℕ) (e : n ≡ sizeIn s) (start : ℕ) (es : start ≡ rowsAt n) where
+  pub start-is : start ≡ rowsAt (sizeIn s)
+  start-is = es ∙ rw e refl
 
-  pub start-within : clockAt + n + n * n ≤ length s
-  start-within = rw e (omega (arith, K .room))
+  pub start-within : start ≤ length s
+  start-within = rw start-is (omega (arith, K .room))
 
 -- the part of the words from the first row on
 module _ (s : List ℕ) (K : Checked s) (start w : ℕ) (es : start ≡ rowsAt (sizeIn s)) (ew : w ≡ rowWidth (sizeIn s)) where

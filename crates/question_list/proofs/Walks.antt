@@ -1,41 +1,28 @@
 -- From one value of an object to the next.
 use mathlib.Core.Path.{_≡_, refl, sym, ap, _∙_}
-use mathlib.Core.Bool.{true, _||_}
 use mathlib.Core.List.{List, [], _∷_, map, List·Memᴰ, List·Memᴰ·head, List·Memᴰ·tail}
 use Prim.Native.Nat.{ℕ, zero, suc, _+_, _-_, _*_, _≤_, _<_}
 use native.Mathlib.Nat.{suc-mul, zero-mul, add-mul}
 use native.Mathlib.Omega.{arith}
-use borrow.Author.Tests.{eqb-true, ltb-true, leb-true, leb-false}
+use borrow.Author.Tests.{leb-true, leb-false}
 use mir.Val.{Fits}
 use mir.Syntax.{w32, w64}
-use lib.Dec.{eqb, leb}
+use lib.Dec.{leb}
 use lib.ListN.{length, getD, take, drop, drop-of-length-le}
-use lib.Seq.{drop-drop, getD-take, getD-drop}
-use Rattle.meaning.specs.Operations.{isCounter, isFlag, clears, valueAllowed, valueLimit, greatestAmount}
+use lib.Seq.{drop-drop}
+use Rattle.meaning.specs.Operations.{valueLimit}
 use Rattle.meaning.specs.Rows.{Row}
-use Rattle.meaning.specs.Table.{Table, isTable, kindIn}
-use Rattle.meaning.proofs.Tests.{cases, between-out}
-use Rattle.meaning.proofs.TableFacts.{facts}
+use Rattle.meaning.proofs.Tests.{cases}
+use Rattle.meaning.proofs.TableFacts.{row-small}
 use Rattle.words_layout.specs.Words.{pieces, ofTwoWords}
 use Rattle.words_layout.specs.Layout.{tableOf, rowOf, rowsAt, rowWidth, sizeIn, countIn, mostWords, mostBeforeRows, mostRowWords}
+use Rattle.words_layout.proofs.Pieces.{word-at}
 use Rattle.table_rules.specs.Checked.{Checked}
 use Rattle.question_scan.specs.Showing.{shows, shown, beforeShown}
 use Rattle.question_scan.proofs.Listing.{rows-number}
 use Rattle.question_scan.proofs.Scanning.{none-left, step-most, next-and-rest}
 use Rattle.question_list.specs.Walking.{valuesBehind, nextValue}
 use Rattle.question_list.specs.declared.Found.{Found}
-
--- "Other values are any 32-bit number"
-value-small : (kind code value : ℕ) → valueAllowed kind code value ≡ true → value < valueLimit
-unfolding valueAllowed
-value-small kind code value h = cases (isCounter kind)
-    (λ q. omega (arith, between-out 1 greatestAmount value (rw q at h) .1))
-    (λ q. let h1 = rw q at h in cases (isFlag kind || eqb code clears)
-    (λ p. omega (arith, eqb-true value 0 (rw p at h1)))
-    (λ p. ltb-true value valueLimit (rw p at h1)))
-
-row-small : (table : Table) → isTable table ≡ true → (row : Row) → List·Memᴰ row (table .rows) → row .operation .value < valueLimit
-row-small table h row m = value-small (kindIn (table .header) (row .operation .object)) (row .operation .code) (row .operation .value) (facts table h .row-facts row m .value-allowed)
 
 shown-small : (o : ℕ) (rows : List Row) → ((row : Row) → List·Memᴰ row rows → row .operation .value < valueLimit) → (k v : ℕ) (rest : List ℕ) → shown o (drop k rows) ≡ v ∷ rest → v < valueLimit
 shown-small o [] f zero v rest e = absurd (let z = ap (λ (l : List ℕ). length l) e in omega (arith, z))
@@ -47,7 +34,7 @@ shown-small o (row ∷ rows) f zero v rest e = cases (shows o row rows)
 
 -- what a step of the walk returns
 abbrev found : ℕ → ℕ → Found
-found value passed = record { value = value; passed = record { 0 = passed } }
+found value passed = record { value = record { 0 = value }; passed = record { 0 = passed } }
 
 -- the rows behind the first so many
 behind-rows : (w more k at : ℕ) (s : List ℕ) → k ≤ more → drop k (map rowOf (pieces w more (drop at s))) ≡ map rowOf (pieces w (more - k) (drop (at + k * w) s))
@@ -158,11 +145,11 @@ module _ (s : List ℕ) (K : Checked s) (passed o : ℕ) (some : 0 < length (val
         unfolding valuesBehind
         left-are = ap (λ (l : List Row). shown o l) rest-are ∙ next-and-rest s w o from more b eb not-all
 
-        word-at : (i : ℕ) → i < w → getD (take w (drop (from + b * w) s)) i 0 ≡ getD s (at + i) 0
-        word-at i h = getD-take w (drop (from + b * w) s) i 0 h ∙ getD-drop (from + b * w) s i 0 ∙ rw eq refl
+        here : (i : ℕ) → i < w → getD (take w (drop (from + b * w) s)) i 0 ≡ getD s (at + i) 0
+        here i h = word-at s w (from + b * w) i h ∙ rw eq refl
 
         value-is : rowOf (take w (drop (from + b * w) s)) .operation .value ≡ ofTwoWords (getD s (at + 1) 0) (getD s (at + 2) 0)
-        value-is = rw (word-at 1 (omega (arith, wide)), word-at 2 (omega (arith, wide))) refl
+        value-is = rw (here 1 (omega (arith, wide)), here 2 (omega (arith, wide))) refl
 
         low-is : rowOf (take w (drop (from + b * w) s)) .operation .value ≡ getD s (at + 2) 0
         unfolding valuesBehind

@@ -13,6 +13,6 @@ valuesBehind passed o table = shown o (drop passed (table .rows))
 -- The first of them, and how many rows are passed with the row that shows it.
 unfoldable pub nextValue : ℕ → ℕ → Table → Found
 nextValue passed o table = record {
-  value = getD (valuesBehind passed o table) 0 0;
+  value = record { 0 = getD (valuesBehind passed o table) 0 0 };
   passed = record { 0 = passed + beforeShown o (drop passed (table .rows)) + 1 };
 }

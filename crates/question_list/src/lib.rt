@@ -8,16 +8,16 @@ ghost use Rattle.words_layout.specs.Layout.{rowsAt, rowWidth, sizeIn, tableOf};
 ghost use Rattle.table_insert.specs.Placing.{keyWords};
 ghost use Rattle.table_rules.specs.Checked.{Checked};
 ghost use Rattle.question_list.specs.Walking.{nextValue, valuesBehind};
-use words_layout::CLOCK_AT;
 use words_layout::COUNT_AT;
 use words_layout::KEY;
 use words_layout::LOW_AT;
 use words_layout::SIZE_AT;
 use words_tags::RowCount;
+use words_tags::Value;
 
 // The next value of a walk, and how many rows are passed with it.
 pub struct Found {
-    pub value: u32,
+    pub value: Value,
     pub passed: RowCount,
 }
 
@@ -26,8 +26,7 @@ fn rows_start(s: &[u32]) -> usize
     requires { ⌜ Checked (now s) ⌝ }
     ensures { λ r. ⌜ (r ≡ rowsAt (sizeIn (now (s .entry)))) × (r ≤ length (now (s .entry))) ⌝ }
 {
-    let size = words_tags::wide(s[SIZE_AT]);
-    CLOCK_AT + size + size * size
+    table_ranges::rows_at(words_tags::wide(s[SIZE_AT]))
 }
 
 // How many words a row of a table has.
@@ -39,9 +38,9 @@ fn row_width(s: &[u32]) -> usize
 }
 
 // Whether a value of the object is in; a flag is on where 0 is.
-pub fn is_in(s: &[u32], object: u32, value: u32) -> bool
+pub fn is_in(s: &[u32], object: u32, value: Value) -> bool
     requires { ⌜ Checked (now s) ⌝ }
-    ensures { λ r. ⌜ r ≡ byRows (tableOf (now (s .entry))) .inAt object value ⌝ }
+    ensures { λ r. ⌜ r ≡ byRows (tableOf (now (s .entry))) .inAt object (value .0) ⌝ }
 {
     let start = rows_start(s);
     let width = row_width(s);
@@ -76,7 +75,7 @@ pub fn next_value(s: &[u32], object: u32, passed: RowCount) -> Found
     ).0;
     let at = from + words_tags::wide(before) * width;
     Found {
-        value: s[at + LOW_AT],
+        value: Value(s[at + LOW_AT]),
         passed: RowCount(passed.0 + before + 1),
     }
 }
@@ -91,7 +90,7 @@ pub fn list_into(s: &[u32], object: u32, count: RowCount, out: &mut [u32])
     let mut left = count.0;
     while 0 < left {
         let found = next_value(s, object, RowCount(passed));
-        out[to] = found.value;
+        out[to] = found.value.0;
         passed = found.passed.0;
         to += 1;
         left -= 1;

@@ -10,7 +10,7 @@ use mir.Val.{Fits}
 use mir.Syntax.{w32, w64}
 use lib.Dec.{eqb}
 use lib.ListN.{length, getD, take, drop}
-use lib.Seq.{getD-take, getD-drop, drop-drop}
+use lib.Seq.{drop-drop}
 use Rattle.meaning.specs.Meaning.{on, addOf}
 use Rattle.meaning.specs.Rows.{Row}
 use Rattle.meaning.specs.Arrival.{sameValue}
@@ -18,12 +18,9 @@ use Rattle.meaning.proofs.Tests.{iff, and-left, and-right, and-true}
 use Rattle.meaning.proofs.Steps.{and-false}
 use Rattle.words_layout.specs.Words.{pieces, ofTwoWords, wordLimit}
 use Rattle.words_layout.specs.Layout.{rowOf}
+use Rattle.words_layout.proofs.Pieces.{word-at}
 use Rattle.question_scan.specs.Showing.{followed, shows, shown, showsValue, valueShown, beforeShown, countShown, sameKey}
 use Rattle.question_scan.proofs.Listing.{before-most, shown-none, shown-next, rows-number, rows-behind}
-
--- a word of the row at a place
-word-at : (s : List ℕ) (w at i : ℕ) → i < w → getD (take w (drop at s)) i 0 ≡ getD s (at + i) 0
-word-at s w at i h = getD-take w (drop at s) i 0 h ∙ getD-drop at s i 0
 
 -- two values are the same where their words are
 value-words : (h l h′ l′ : ℕ) → l < wordLimit → l′ < wordLimit → eqb (ofTwoWords h l) (ofTwoWords h′ l′) ≡ (eqb h h′ && eqb l l′)

@@ -1,60 +1,26 @@
 -- In a table by the rules the values shown are the list: "the different values ascending".
 use mathlib.Core.Path.{_≡_, refl, sym, _∙_, ap, subst}
-use mathlib.Core.Bool.{Bool, true, false, not, _&&_, _||_, cond, false≢true}
-use mathlib.Core.Logic.{_⊎_, inl, inr, ⊎-elim}
+use mathlib.Core.Bool.{Bool, true, false, not, _&&_, _||_, false≢true}
+use mathlib.Core.Logic.{inl, inr, ⊎-elim}
 use mathlib.Core.List.{List, [], _∷_, List·Memᴰ, List·Memᴰ·head, List·Memᴰ·tail, List·Memᴰ·cases-cons}
-use Prim.Native.Nat.{ℕ, _<_, _≤_}
+use Prim.Native.Nat.{ℕ}
 use native.Mathlib.Omega.{arith}
 use lib.Dec.{eqb, ltb}
 use lib.ListN.{length}
 use borrow.Author.Tests.{eqb-true, eq-eqb, lt-ltb}
 use Rattle.meaning.specs.Tests.{any}
-use Rattle.meaning.specs.Operations.{Operation, numberOf}
+use Rattle.meaning.specs.Operations.{Operation}
 use Rattle.meaning.specs.Meaning.{on, addOf, removeOf}
-use Rattle.meaning.specs.Rows.{Row, keyOf, lowerKey, lowerRow, removeRowsCount, isInByRows, listByRows, countByRows}
+use Rattle.meaning.specs.Rows.{Row, lowerRow, removeRowsCount, isInByRows, listByRows, countByRows}
 use Rattle.meaning.specs.Arrival.{sameValue}
 use Rattle.meaning.proofs.Tests.{iff, cases, clash, fails, and-left, and-right, and-both, not-holds, fails-not, any-in, any-out, any-none, or-cases, or-right, or-right-fails}
-use Rattle.meaning.proofs.Ascending.{Asc, Sorted, lower-cases}
+use Rattle.meaning.proofs.Ascending.{Asc, Sorted}
+use Rattle.meaning.proofs.RowOrder.{ordered, between, code-rises}
 use Rattle.meaning.proofs.OneValue.{add-on, remove-on}
 use Rattle.meaning.proofs.RowLaws.{on-eq}
 use Rattle.meaning.proofs.Steps.{and-false, add-not-rem}
 use Rattle.meaning.proofs.Lists.{one-list, rows-list-in, rows-list-out, rows-list-asc}
 use Rattle.question_scan.specs.Showing.{followed, shows, shown, countShown, showsValue, valueShown}
-
--- of two rows in order, the lower has the lower object, or the same object and no higher value, or both the same and no higher code
-abbrev InOrder : (object value code object′ value′ code′ : ℕ) → Type 0
-InOrder o v c o′ v′ c′ = (o < o′) ⊎ ((o ≡ o′) × ((v < v′) ⊎ ((v ≡ v′) × (c ≤ c′))))
-
-ordered-keys : (o v c o′ v′ c′ : ℕ) (t t′ : List ℕ) → lowerKey (o ∷ v ∷ c ∷ t) (o′ ∷ v′ ∷ c′ ∷ t′) ≡ true → InOrder o v c o′ v′ c′
-ordered-keys o v c o′ v′ c′ t t′ h = ⊎-elim inl
-    (λ p. inr (
-      p .0,
-      ⊎-elim inl
-          (λ q. inr (q .0, ⊎-elim (λ r. omega arith) (λ r. let k = r .0 in omega arith) (lower-cases c c′ t t′ (q .1))))
-          (lower-cases v v′ (c ∷ t) (c′ ∷ t′) (p .1)),
-    ))
-    (lower-cases o o′ (v ∷ c ∷ t) (v′ ∷ c′ ∷ t′) h)
-
-ordered : (a b : Row) → lowerRow a b ≡ true → InOrder (a .operation .object) (a .operation .value) (a .operation .code) (b .operation .object) (b .operation .value) (b .operation .code)
-unfolding lowerRow keyOf
-ordered a b h = ordered-keys (a .operation .object) (a .operation .value) (a .operation .code) (b .operation .object) (b .operation .value) (b .operation .code)
-    (cond (a .settled) 0 1 ∷ a .operation .sender ∷ numberOf (a .operation) ∷ []) (cond (b .settled) 0 1 ∷ b .operation .sender ∷ numberOf (b .operation) ∷ []) h
-
--- a row between two of one object and value is of that object and value too
-between : (o v : ℕ) (a b c : Row) → on o v (a .operation) ≡ true → on o v (c .operation) ≡ true → lowerRow a b ≡ true → (b ≡ c) ⊎ (lowerRow b c ≡ true) → on o v (b .operation) ≡ true
-unfolding on
-between o v a b c p q h k =
-    let ea = on-eq o v (a .operation) p in
-    let ec = on-eq o v (c .operation) q in
-    ⊎-elim (λ e. subst (λ (r : Row). on o v (r .operation) ≡ true) (sym e) q)
-    (λ l. ⊎-elim (λ x. ⊎-elim (λ y. absurd (omega arith)) (λ y. absurd (let z = y .0 in omega arith)) (ordered b c l))
-    (λ x. ⊎-elim (λ y. absurd (let z = x .0 in omega arith))
-    (λ y. let same-object : b .operation .object ≡ o = (let z = x .0 in omega arith) in
-    let same-value : b .operation .value ≡ v = ⊎-elim
-    (λ f. ⊎-elim (λ g. absurd (omega arith)) (λ g. absurd (let z = g .0 in omega arith)) (y .1))
-    (λ f. let z = f .0 in omega arith) (x .1) in
-    and-both (eqb (b .operation .object) o) (eqb (b .operation .value) v) (eq-eqb (b .operation .object) o same-object) (eq-eqb (b .operation .value) v same-value))
-    (ordered b c l)) (ordered a b h)) k
 
 same-on : (u : Operation) (row : Row) → sameValue u row ≡ on (u .object) (u .value) (row .operation)
 unfolding sameValue
@@ -89,11 +55,9 @@ add-shows o row behind a f = and-both (addOf o (row .operation .value) (row .ope
 remove-not-first : (o v : ℕ) (a b : Row) → lowerRow a b ≡ true → removeOf o v (a .operation) ≡ true → addOf o v (b .operation) ≡ true → ⊥
 unfolding addOf removeOf
 remove-not-first o v a b h p q =
-    let ea = on-eq o v (a .operation) (and-left (on o v (a .operation)) (eqb (a .operation .code) 2) p) in
-    let eb = on-eq o v (b .operation) (and-left (on o v (b .operation)) (eqb (b .operation .code) 1) q) in
     let ca = eqb-true (a .operation .code) 2 (and-right (on o v (a .operation)) (eqb (a .operation .code) 2) p) in
     let cb = eqb-true (b .operation .code) 1 (and-right (on o v (b .operation)) (eqb (b .operation .code) 1) q) in
-    ⊎-elim (λ x. omega arith) (λ x. ⊎-elim (λ y. omega arith) (λ y. let z = y .1 in omega arith) (x .1)) (ordered a b h)
+    omega (arith, code-rises o v a b h (and-left (on o v (a .operation)) (eqb (a .operation .code) 2) p) (and-left (on o v (b .operation)) (eqb (b .operation .code) 1) q))
 
 abbrev anyAdd : ℕ → ℕ → List Row → Bool
 anyAdd o v rows = any (λ (r : Row). addOf o v (r .operation)) rows

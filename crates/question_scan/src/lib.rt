@@ -12,10 +12,9 @@ use table_kinds::ADDS;
 use words_layout::CODE_AT;
 use words_layout::HIGH_AT;
 use words_layout::LOW_AT;
+use words_layout::NO_HIGH;
 use words_tags::RowCount;
-
-// Values are 32-bit numbers: their high word is 0.
-const NO_HIGH: u32 = 0;
+use words_tags::Value;
 
 // Whether the rows at two places are of different values, by their object and value words.
 fn differ(rows: &[u32], at: usize, next: usize) -> bool
@@ -55,24 +54,24 @@ fn shows_value_at(
     at: usize,
     more: RowCount,
     object: u32,
-    value: u32,
+    value: Value,
 ) -> bool
     requires { ⌜ (at + more .0 * width ≤ length (now rows)) × (0 < more .0) × (keyWords ≤ width) × (at + keyWords ≤ length (now rows)) ⌝ }
-    ensures { λ r. ⌜ r ≡ showsValue object value (rowOf (take width (drop at (now (rows .entry))))) (map rowOf (pieces width (more .0 - 1) (drop (at + width) (now (rows .entry))))) ⌝ }
+    ensures { λ r. ⌜ r ≡ showsValue object (value .0) (rowOf (take width (drop at (now (rows .entry))))) (map rowOf (pieces width (more .0 - 1) (drop (at + width) (now (rows .entry))))) ⌝ }
 {
     if rows[at + HIGH_AT] != NO_HIGH {
         return false;
     }
-    if rows[at + LOW_AT] != value {
+    if rows[at + LOW_AT] != value.0 {
         return false;
     }
     shows_at(rows, width, at, more, object)
 }
 
 // Whether a value of the object is shown.
-pub fn value_shown(rows: &[u32], width: usize, count: RowCount, object: u32, value: u32) -> bool
+pub fn value_shown(rows: &[u32], width: usize, count: RowCount, object: u32, value: Value) -> bool
     requires { ⌜ (count .0 * width ≤ length (now rows)) × (keyWords ≤ width) ⌝ }
-    ensures { λ r. ⌜ r ≡ valueShown object value (map rowOf (pieces width (count .0) (now (rows .entry)))) ⌝ }
+    ensures { λ r. ⌜ r ≡ valueShown object (value .0) (map rowOf (pieces width (count .0) (now (rows .entry)))) ⌝ }
 {
     let mut at = 0;
     let mut more = count.0;

@@ -1,19 +1,19 @@
 -- What an object's kind allows, a law for each way out of the code.
-use Prim.Native.Nat.{ℕ, _+_, _≤_, _<_}
-use mathlib.Core.Path.{_≡_, refl, sym, ap, subst, _∙_}
+use Prim.Native.Nat.{ℕ, _≤_, _<_}
+use mathlib.Core.Path.{_≡_, refl, sym, ap, _∙_}
 use mathlib.Core.Bool.{Bool, true, false, not}
-use mathlib.Core.List.{List, [], _∷_}
+use mathlib.Core.List.{List}
 use native.Mathlib.Omega.{arith}
-use borrow.Author.Tests.{eqb-true, eqb-false, ne-eqb, lt-ltb, le-leb, lt-leb}
+use borrow.Author.Tests.{ne-eqb, lt-ltb, le-leb, lt-leb}
 use mir.Val.{Fits}
 use mir.Syntax.{w32}
 use lib.Dec.{leb, ltb, eqb}
-use lib.ListN.{length, getD, List·getD-eq-default}
+use lib.ListN.{length}
 use Rattle.meaning.specs.Tests.{between}
 use Rattle.meaning.specs.Operations.{isCounter, isFlag, codesOf, codeAllowed, valueAllowed, allowed, valueLimit, greatestAmount}
 use Rattle.meaning.specs.Questions.{fits}
 use Rattle.meaning.specs.Refusals.{wellAsked}
-use Rattle.meaning.proofs.Tests.{cases}
+use Rattle.table_kinds.proofs.KindLaws.{by-kind, no-codes}
 use Rattle.refusal_kind.specs.Asking.{askedFrom}
 
 -- flags
@@ -26,21 +26,7 @@ module _ (kind : ℕ) where
   unfolding isFlag
   flag-second n = rw (ne-eqb kind 5 n) refl
 
--- a fact of each kind
-by-kind : (P : ℕ → Type 0) → P 1 → P 2 → P 3 → P 4 → P 5 → P 6 → P 7 → P 8 → P 9 → (k : ℕ) → 1 ≤ k → k ≤ 9 → P k
-by-kind P p1 p2 p3 p4 p5 p6 p7 p8 p9 k low high =
-    at 1 p1 low (λ l2. at 2 p2 l2 (λ l3. at 3 p3 l3 (λ l4. at 4 p4 l4 (λ l5. at 5 p5 l5 (λ l6. at 6 p6 l6 (λ l7. at 7 p7 l7 (λ l8. at 8 p8 l8 (λ l9. subst P (omega arith) p9))))))))
-  where
-    at : (m : ℕ) → P m → m ≤ k → (m + 1 ≤ k → P k) → P k
-    at m p l f = cases (eqb k m) (λ e. subst P (sym (eqb-true k m e)) p) (λ e. f (omega (arith, eqb-false k m e)))
-
-past-ten : (l : List (List ℕ)) (k : ℕ) → length l ≡ 10 → 9 < k → getD l k [] ≡ []
-past-ten l k e h = List·getD-eq-default l [] (omega arith)
-
-no-codes : (kind : ℕ) → 9 < kind → codesOf kind ≡ []
-unfolding codesOf
-no-codes kind h = past-ten ([] ∷ (1 ∷ []) ∷ (1 ∷ 2 ∷ []) ∷ (1 ∷ []) ∷ (1 ∷ 2 ∷ []) ∷ (1 ∷ 2 ∷ []) ∷ (1 ∷ 2 ∷ []) ∷ (1 ∷ 3 ∷ []) ∷ (1 ∷ 2 ∷ 3 ∷ []) ∷ (1 ∷ 2 ∷ 3 ∷ []) ∷ []) kind refl h
-
+-- codes
 module _ (kind code : ℕ) where
   pub code-of-none : kind < 1 → false ≡ codeAllowed kind code
   unfolding codeAllowed codesOf

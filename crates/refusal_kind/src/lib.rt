@@ -15,6 +15,7 @@ use table_kinds::GROW_SET;
 use table_kinds::MULTI_VALUE_REGISTER;
 use table_kinds::REMOVE_WINS_SET;
 use table_kinds::REMOVES;
+use words_tags::Value;
 
 const LEAST_AMOUNT: u32 = 1;
 
@@ -77,27 +78,27 @@ fn code_allowed(kind: u32, code: u32) -> bool
 }
 
 // Whether an operation of this code may carry this value, where the kind has the code.
-fn value_allowed(kind: u32, code: u32, value: u32) -> bool
-    ensures { λ r. ⌜ r ≡ valueAllowed kind code value ⌝ }
+fn value_allowed(kind: u32, code: u32, value: Value) -> bool
+    ensures { λ r. ⌜ r ≡ valueAllowed kind code (value .0) ⌝ }
 {
     if table_kinds::is_counter(kind) {
-        if value < LEAST_AMOUNT {
+        if value.0 < LEAST_AMOUNT {
             return false;
         }
-        return value <= meaning::GREATEST_AMOUNT;
+        return value.0 <= meaning::GREATEST_AMOUNT;
     }
     if is_flag(kind) {
-        return value == NO_VALUE;
+        return value.0 == NO_VALUE;
     }
     if code == CLEARS {
-        return value == NO_VALUE;
+        return value.0 == NO_VALUE;
     }
     true
 }
 
 // Whether a kind allows an operation of this code and value; no kind but the nine allows any.
-pub fn is_allowed(kind: u32, code: u32, value: u32) -> bool
-    ensures { λ r. ⌜ r ≡ allowed kind code value ⌝ }
+pub fn is_allowed(kind: u32, code: u32, value: Value) -> bool
+    ensures { λ r. ⌜ r ≡ allowed kind code (value .0) ⌝ }
 {
     if code_allowed(kind, code) {
         return value_allowed(kind, code, value);
@@ -122,8 +123,8 @@ pub fn is_fitted(question: u32, kind: u32) -> bool
 }
 
 // Whether a question is known, with a value only where it takes one; its object does not matter here.
-pub fn well_asked(question: u32, value: u32) -> bool
-    ensures { λ r. ⌜ r ≡ wellAsked (askedFrom 0 question value) ⌝ }
+pub fn well_asked(question: u32, value: Value) -> bool
+    ensures { λ r. ⌜ r ≡ wellAsked (askedFrom 0 question (value .0)) ⌝ }
 {
     if question < ASKS_TOTAL {
         return false;
@@ -134,5 +135,5 @@ pub fn well_asked(question: u32, value: u32) -> bool
     if question == ASKS_HOLDS {
         return true;
     }
-    value == NO_VALUE
+    value.0 == NO_VALUE
 }

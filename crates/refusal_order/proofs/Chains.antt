@@ -60,8 +60,8 @@ module _ (h : Header) (kinds : List ℕ) (clock : Vector) (lasts : List ℕ) (f 
     unfolding frameRefusals declared
     frame-undeclared t = rw (shaped h kinds f v sized known, sym ea ∙ fa, sym eb ∙ t) refl
 
-    module _ (tb : b ≡ true) (kind : ℕ) (ek : kind ≡ getD kinds (f .object) 0) (c : Bool) (ec : c ≡ allowed kind (f .code) (f .value)) where
-      allows : allowed (getD kinds (f .object) 0) (f .code) (f .value) ≡ c
+    module _ (tb : b ≡ true) (kind : ℕ) (ek : kind ≡ getD kinds (f .object) 0) (c : Bool) (ec : c ≡ allowed kind (f .code) (f .value .0)) where
+      allows : allowed (getD kinds (f .object) 0) (f .code) (f .value .0) ≡ c
       allows = rw (sym ek) (sym ec)
 
       pub frame-not-allowed : c ≡ false → 4 ≡ refusal

@@ -26,7 +26,7 @@ frameFrom f vector = record {
   operation = record {
     object = f .object;
     code = f .code;
-    value = f .value;
+    value = f .value .0;
     sender = f .sender .0;
     vector = vector;
   };

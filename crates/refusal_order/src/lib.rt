@@ -22,6 +22,7 @@ use refusal_number::UNFITTED;
 use refusal_number::UNOPENED;
 use words_tags::RowCount;
 use words_tags::Station;
+use words_tags::Value;
 
 // What an opening fixes beside the kinds, which are lent.
 pub struct Header {
@@ -35,7 +36,7 @@ pub struct Sent {
     pub sender: Station,
     pub object: u32,
     pub code: u32,
-    pub value: u32,
+    pub value: Value,
 }
 
 // Whether a sender is no other station of the group: outside of it, or the own one.
@@ -62,13 +63,10 @@ pub fn frame_refusal(
 {
     let sender = f.sender;
     let own = h.own;
+    let value = f.value;
     let stranger = is_stranger(sender, h.size, own);
     let undeclared = !refusal_kind::is_declared(kinds, f.object);
-    let forbidden = !refusal_kind::is_allowed(
-        table_kinds::kind_of(kinds, f.object),
-        f.code,
-        f.value,
-    );
+    let forbidden = !refusal_kind::is_allowed(table_kinds::kind_of(kinds, f.object), f.code, value);
     let known = refusal_time::is_known(v, clock, sender);
     let early = !refusal_time::in_time(v, clock, sender);
     let falling = !refusal_time::keeps_rising(lasts, v, sender);
@@ -100,9 +98,9 @@ pub fn issue_refusal(
     clock: &[u32],
     object: u32,
     code: u32,
-    value: u32,
+    value: Value,
 ) -> u32
-    ensures { λ r. ⌜ r ≡ firstOf (issueRefusals (headerFrom h (now (kinds .entry))) (now (clock .entry)) (localFrom object code value)) ⌝ }
+    ensures { λ r. ⌜ r ≡ firstOf (issueRefusals (headerFrom h (now (kinds .entry))) (now (clock .entry)) (localFrom object code (value .0))) ⌝ }
 {
     let own = h.own;
     let declared = refusal_kind::is_declared(kinds, object);
@@ -121,8 +119,8 @@ pub fn issue_refusal(
 }
 
 // The refusal of a question, 1, 3 and 12.
-pub fn question_refusal(kinds: &[u32], object: u32, question: u32, value: u32) -> u32
-    ensures { λ r. ⌜ r ≡ firstOf (askedRefusals (headerOfKinds (now (kinds .entry))) (askedFrom object question value)) ⌝ }
+pub fn question_refusal(kinds: &[u32], object: u32, question: u32, value: Value) -> u32
+    ensures { λ r. ⌜ r ≡ firstOf (askedRefusals (headerOfKinds (now (kinds .entry))) (askedFrom object question (value .0))) ⌝ }
 {
     let well_asked = refusal_kind::well_asked(question, value);
     let object_declared = refusal_kind::is_declared(kinds, object);

@@ -1,21 +1,21 @@
 -- The entries of a vector against D and against the sender's last vector.
-use Prim.Native.Nat.{ℕ, zero, suc, _+_, _-_, _*_, _≤_, _<_}
+use Prim.Native.Nat.{ℕ, suc, _+_, _-_, _*_, _≤_, _<_}
 use mathlib.Core.Path.{_≡_, refl, sym, ap, subst, _∙_}
 use mathlib.Core.Bool.{Bool, true, false, cond}
 use mathlib.Core.List.{List, []}
-use native.Mathlib.Nat.{le-of-suc-le-suc, not-suc-le-zero, mul-le-mul, mul-le-mul-right, suc-mul}
+use native.Mathlib.Nat.{mul-le-mul, mul-le-mul-right, suc-mul}
 use native.Mathlib.Omega.{arith}
 use borrow.Author.Tests.{eqb-true, eqb-false, eq-eqb, ne-eqb, le-leb, lt-leb}
 use mir.Val.{Fits}
 use mir.Syntax.{w64}
 use lib.Dec.{leb, eqb}
 use lib.ListN.{length, getD, take, drop, length-set, length-drop, List·getD-eq-default}
-use lib.Seq.{getD-set-other, drop-drop, length-take-le}
+use lib.Seq.{getD-set-other, length-take-le}
 use Rattle.meaning.specs.Order.{Vector, entryLimit, atMost, raised}
 use Rattle.meaning.proofs.Tests.{cases}
 use Rattle.meaning.proofs.Vectors.{raised-at}
 use Rattle.words_layout.specs.Words.{pieces}
-use Rattle.words_layout.proofs.Pieces.{length-pieces}
+use Rattle.words_layout.proofs.Pieces.{length-pieces, piece-at}
 use Rattle.words_tags.proofs.Pairs.{Passed, at-most-by-pairs, start, pair-fails, pair-holds, done}
 use Rattle.refusal_time.specs.Lasts.{lastOf}
 use Rattle.meaning.specs.Table.{greatestSize}
@@ -76,13 +76,6 @@ module _ (v clock : Vector) (at : ℕ) (good : Bool) (i : ℕ) (T : Timely v clo
   time-done h sender e = done atMost leb at-most-by-pairs v (raised clock at) good i (T .passed) h ∙ ap (λ (s : ℕ). atMost v (raised clock s)) e
 
 -- the part of the lent words that is a station's last vector
-piece-at : (w count : ℕ) (s : List ℕ) (k : ℕ) → k < count → getD (pieces w count s) k [] ≡ take w (drop (k * w) s)
-piece-at w zero s k h = absurd (not-suc-le-zero h)
-piece-at w (suc count) s zero h = let z : 0 * w ≡ 0 = omega arith in rw z refl
-piece-at w (suc count) s (suc k) h =
-    let q : suc k * w ≡ w + k * w = omega (arith, suc-mul k w) in
-    piece-at w count (drop w s) k (le-of-suc-le-suc h) ∙ ap (take w) (drop-drop (k * w) w s) ∙ rw q refl
-
 module _ (v : Vector) (lasts : List ℕ) (sender at : ℕ) (e : at ≡ sender) where
   pub last-of-none : length v ≤ at → true ≡ atMost (lastOf (length v) lasts sender) v
   last-of-none h =
@@ -90,7 +83,7 @@ module _ (v : Vector) (lasts : List ℕ) (sender at : ℕ) (e : at ≡ sender) w
       rw (List·getD-eq-default (pieces (length v) (length v) lasts) [] l) refl
 
   module _ (few : length v ≤ greatestSize) (h : at < length v) where
-    place-small : at * length v ≤ 256
+    place-small : at * length v ≤ greatestSize * greatestSize
     place-small = let l : at ≤ greatestSize = omega arith in mul-le-mul l few
 
     pub last-place-fits : Fits w64 (at * length v)
@@ -114,5 +107,5 @@ module _ (v : Vector) (lasts : List ℕ) (sender at : ℕ) (e : at ≡ sender) w
       pub last-there : (r : Bool) → r ≡ atMost (take (at * length v + length v - at * length v) (drop (at * length v) lasts)) v → r ≡ atMost (lastOf (length v) lasts sender) v
       last-there r f =
           let q : at * length v + length v - at * length v ≡ length v = omega arith in
-          let there : take (at * length v + length v - at * length v) (drop (at * length v) lasts) ≡ lastOf (length v) lasts sender = rw q (sym (piece-at (length v) (length v) lasts at h) ∙ ap (lastOf (length v) lasts) e) in
+          let there : take (at * length v + length v - at * length v) (drop (at * length v) lasts) ≡ lastOf (length v) lasts sender = rw q (sym (piece-at (length v) (length v) at lasts h) ∙ ap (lastOf (length v) lasts) e) in
           f ∙ ap (λ (u : Vector). atMost u v) there

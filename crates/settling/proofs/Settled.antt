@@ -18,9 +18,9 @@ use Rattle.meaning.proofs.TableRules.{kept-by-settling, settling-shortens}
 use Rattle.words_layout.specs.Words.{pieces, flat, padded}
 use Rattle.words_layout.specs.Layout.{rowOf, rowWords, rowsIn, tableOf, rewritten, sizeIn, ownIn, countIn, rowsAt, clockAt, totalsAt}
 use Rattle.words_layout.proofs.Pieces.{Each, map-back, length-pieces}
-use Rattle.words_layout.proofs.RowWords.{Shaped, row-read}
+use Rattle.words_layout.proofs.RowWords.{Shaped, row-read, zeros-at}
 use Rattle.words_layout.proofs.Whole.{fit, put-fewer, each-spelt, wide-rows}
-use Rattle.words_layout.proofs.Reading.{short}
+use Rattle.words_layout.proofs.Reading.{clock-part, short}
 use Rattle.words_layout.proofs.Changing.{kinds-are}
 use Rattle.table_change.specs.Changes.{Opened}
 use Rattle.table_change.proofs.Changing.{opened, all-of, nothing-behind}
@@ -72,10 +72,6 @@ module _ (s : List ℕ) (K : Checked s) where
       e ∙ rw (l, take-all mostObjects (take mostObjects (drop 7 s)) (omega (arith, l))) (append-nil (take mostObjects (drop 7 s)))
 
   -- Low
-  clock-is : take (clockAt + n - clockAt) (drop clockAt s) ≡ t .clock
-  unfolding tableOf
-  clock-is = let e : clockAt + n - clockAt ≡ n = omega arith in rw e refl
-
   last-is : pieces n n (take (length s - (clockAt + n)) (drop (clockAt + n) s)) ≡ t .last
   unfolding tableOf
   last-is = rw (all-of s (clockAt + n)) refl
@@ -93,14 +89,14 @@ module _ (s : List ℕ) (K : Checked s) where
   below = every-other (isBelow (t .clock)) (ownIn s) (t .last) (λ k h d. last-below t (K .by-rules) k (rw (facts t (K .by-rules) .last-length) at h) (λ e. d (e ∙ own-is)))
 
   pub low-asks : (length (take (clockAt + n - clockAt) (drop clockAt s)) ≤ greatestSize) × (length (take (clockAt + n - clockAt) (drop clockAt s)) * length (take (clockAt + n - clockAt) (drop clockAt s)) ≤ length (take (length s - (clockAt + n)) (drop (clockAt + n) s)))
-  low-asks = rw (clock-is, fit s (K .laid) .clock-long, size-is, all-of s (clockAt + n), length-drop (clockAt + n) s) (K .few, omega (arith, K .room))
+  low-asks = rw (clock-part s n refl, fit s (K .laid) .clock-long, size-is, all-of s (clockAt + n), length-drop (clockAt + n) s) (K .few, omega (arith, K .room))
 
   pub low-below-asks : othersBelow (take (clockAt + n - clockAt) (drop clockAt s)) (ownIn s) (pieces (length (take (clockAt + n - clockAt) (drop clockAt s))) (length (take (clockAt + n - clockAt) (drop clockAt s))) (take (length s - (clockAt + n)) (drop (clockAt + n) s))) ≡ true
-  low-below-asks = rw (clock-is, fit s (K .laid) .clock-long, size-is, last-is) below
+  low-below-asks = rw (clock-part s n refl, fit s (K .laid) .clock-long, size-is, last-is) below
 
   pub low-is : (r : List ℕ) → r ≡ padded greatestSize (lowOf (take (clockAt + n - clockAt) (drop clockAt s)) (othersOf (ownIn s) (pieces (length (take (clockAt + n - clockAt) (drop clockAt s))) (length (take (clockAt + n - clockAt) (drop clockAt s))) (take (length s - (clockAt + n)) (drop (clockAt + n) s))))) → r ≡ padded greatestSize (low t)
   unfolding low
-  low-is r e = e ∙ rw (clock-is, fit s (K .laid) .clock-long, size-is, last-is, own-is) refl
+  low-is r e = e ∙ rw (clock-part s n refl, fit s (K .laid) .clock-long, size-is, last-is, own-is) refl
 
   -- as long as the clock
   low-long : length (low t) ≡ n
@@ -118,11 +114,6 @@ module _ (s : List ℕ) (K : Checked s) where
   unfolding kindIn kindAt
   kind-same o = sym (rw (kinds-are s (K .laid)) (padded-at mostObjects (t .header .kinds) o))
     where
-      zeros-at : (k i : ℕ) → _≡_ {A = ℕ} (getD (replicate k 0) i 0) 0
-      zeros-at zero i = refl
-      zeros-at (suc k) zero = refl
-      zeros-at (suc k) (suc i) = zeros-at k i
-
       behind : (l : List ℕ) (k i : ℕ) → getD (l ++ replicate k 0) i 0 ≡ getD l i 0
       behind [] k i = zeros-at k i
       behind (x ∷ l) k zero = refl
@@ -193,26 +184,26 @@ module _ (s : List ℕ) (K : Checked s) (m : ℕ) (e : m ≡ sizeIn s) where
   pub low-given : (r : List ℕ) → r ≡ padded greatestSize (lowOf (take (clockAt + m - clockAt) (drop clockAt s)) (othersOf (ownIn s) (pieces (length (take (clockAt + m - clockAt) (drop clockAt s))) (length (take (clockAt + m - clockAt) (drop clockAt s))) (take (length s - (clockAt + m)) (drop (clockAt + m) s))))) → r ≡ padded greatestSize (low (tableOf s))
   low-given r f = low-is s K r (rw e at f)
 
-module _ (s : List ℕ) (K : Checked s) (m c : ℕ) (O : Opened s m c) (kinds low₁ : List ℕ) (k : kinds ≡ take mostObjects (drop 7 s)) (l : low₁ ≡ padded greatestSize (low (tableOf s))) where
+module _ (s : List ℕ) (K : Checked s) (m c : ℕ) (O : Opened s m c) (kinds low₁ : List ℕ) (k : kinds ≡ take mostObjects (drop 7 s)) (l : low₁ ≡ padded greatestSize (low (tableOf s))) (from : ℕ) (start : from ≡ rowsAt m) where
   abbrev rest : List ℕ
-  rest = take (length s - (clockAt + m + m * m)) (drop (clockAt + m + m * m) s)
+  rest = take (length s - from) (drop from s)
 
   pub lent-long : length (take (m - 0) low₁) ≡ m
   lent-long = rw (O .size-is) (pass-asks s K low₁ l .0)
 
   pub lent-room : c * (7 + m) ≤ length rest
-  lent-room = rw (O .size-is, O .count-is) (pass-asks s K low₁ l .1)
+  lent-room = rw (start, O .size-is, O .count-is) (pass-asks s K low₁ l .1)
 
   pub lent-held : Held kinds m (pieces (7 + m) c rest)
-  lent-held = rw (k, O .size-is, O .count-is) (rows-held s K)
+  lent-held = rw (k, start, O .size-is, O .count-is) (rows-held s K)
 
   pub call-steps : (limit taken : ℕ) → taken ≡ stepsThen kinds (take (m - 0) low₁) limit (map rowOf (pieces (7 + m) c rest)) → taken ≡ steps (tableOf s) limit
-  call-steps limit taken f = settled-steps s K limit low₁ taken l (rw (k, O .size-is, O .count-is) at f)
+  call-steps limit taken f = settled-steps s K limit low₁ taken l (rw (k, start, O .size-is, O .count-is) at f)
 
   pub call-words : (limit left : ℕ) (x : List ℕ) → left ≡ length (rowsThen kinds (take (m - 0) low₁) limit (map rowOf (pieces (7 + m) c rest))) →
       x ≡ padded (c * (7 + m)) (flat (map (rowWords m) (rowsThen kinds (take (m - 0) low₁) limit (map rowOf (pieces (7 + m) c rest))))) ++ drop (c * (7 + m)) rest →
-      set (take (clockAt + m + m * m) s ++ (x ++ drop (length s - (clockAt + m + m * m)) (drop (clockAt + m + m * m) s))) 5 left ≡ rewritten s (withRows (tableOf s) (rowsSettled (tableOf s) limit))
-  call-words limit left x f g = rw (O .size-is) (settled-words s K limit low₁ x left l (rw (k, O .size-is, O .count-is) at f) (rw (k, O .size-is, O .count-is) at g))
+      set (take from s ++ (x ++ drop (length s - from) (drop from s))) 5 left ≡ rewritten s (withRows (tableOf s) (rowsSettled (tableOf s) limit))
+  call-words limit left x f g = rw (start, O .size-is) (settled-words s K limit low₁ x left l (rw (k, start, O .size-is, O .count-is) at f) (rw (k, start, O .size-is, O .count-is) at g))
 
 -- the numbers of the head are those that the words hold
 pub head-opened : (s : List ℕ) → Checked s → (m c : ℕ) → m ≡ sizeIn s → c ≡ countIn s → Opened s m c

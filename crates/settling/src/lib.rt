@@ -83,7 +83,7 @@ fn settle_opened(s: &mut [u32], size: usize, count: RowCount, limit: RowCount) -
 {
     let kinds = kinds_of(s);
     let low = low_in(s, size);
-    let base = words_layout::CLOCK_AT + size + size * size;
+    let base = table_ranges::rows_at(size);
     let passed = settling_pass::pass_rows(
         &mut s[base..],
         size,

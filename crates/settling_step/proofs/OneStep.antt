@@ -1,11 +1,10 @@
 -- One step at a row, in words: what becomes of the row by the rows beside it, and that the rows left may stand in a table.
-use Prim.Native.Nat.{ℕ, _+_, _-_, _<_}
+use Prim.Native.Nat.{ℕ, _+_, _-_}
 use mathlib.Core.Path.{_≡_, refl, sym, ap, _∙_, subst}
 use mathlib.Core.Bool.{Bool, true, false, not, false≢true}
 use mathlib.Core.List.{List, [], _∷_, _++_, map}
 use native.Mathlib.Omega.{arith}
 use lib.ListN.{getD, take, drop}
-use lib.Seq.{getD-take, getD-drop}
 use Rattle.meaning.specs.Tests.{any}
 use Rattle.meaning.specs.Order.{Vector}
 use Rattle.meaning.specs.Operations.{Operation}
@@ -16,7 +15,7 @@ use Rattle.meaning.specs.Calls.{withRows}
 use Rattle.meaning.proofs.Tests.{cases, clash, and-left, not-holds}
 use Rattle.words_layout.specs.Words.{pieces}
 use Rattle.words_layout.specs.Layout.{rowOf, rowWords}
-use Rattle.words_layout.proofs.Pieces.{Each, map-back}
+use Rattle.words_layout.proofs.Pieces.{Each, map-back, word-at}
 use Rattle.words_layout.proofs.RowWords.{row-read}
 use Rattle.words_layout.proofs.Whole.{back-each}
 use Rattle.settling_step.specs.declared.Neighbour.{Neighbour}
@@ -147,9 +146,6 @@ module _ (kinds low : List ℕ) (n : ℕ) (ls ms : List (List ℕ)) (ws : List �
     some-words e f = some-in (H .table) above below u ruled (e ∙ rw same-kind refl) (ap (map rowOf) f)
 
 -- the step at a row, from its words
-word-at : (s : List ℕ) (w at i : ℕ) → i < w → getD (take w (drop at s)) i 0 ≡ getD s (at + i) 0
-word-at s w at i h = getD-take w (drop at s) i 0 h ∙ getD-drop at s i 0
-
 module _ (kinds low s : List ℕ) (n at more left : ℕ) (H : Held kinds n (pieces (7 + n) left s ++ (take (7 + n) (drop at s) ∷ pieces (7 + n) more (drop (at + (7 + n)) s)))) (d : Bool) (e : d ≡ due low (rowOf (take (at + (7 + n) - at) (drop at s)))) where
   abbrev row : Row
   row = rowOf (take (7 + n) (drop at s))

@@ -12,7 +12,7 @@ use Rattle.meaning.specs.Order.{Vector}
 use Rattle.meaning.specs.Rows.{Row}
 use Rattle.meaning.specs.Calls.{withRows}
 use Rattle.words_layout.specs.Words.{flat, padded}
-use Rattle.words_layout.specs.Layout.{Laid, rowOf, tableOf, rewritten, sizeIn, countIn, rowsIn, clockAt, rowWidth}
+use Rattle.words_layout.specs.Layout.{Laid, rowOf, tableOf, rewritten, sizeIn, countIn, rowsIn, rowsAt, rowWidth}
 use Rattle.words_layout.proofs.Pieces.{those-map}
 use Rattle.words_layout.proofs.Whole.{area, put-filtered}
 use Rattle.table_drop.specs.Arriving.{operationOf, goes, rowGoes, leftBy, staying}
@@ -43,22 +43,19 @@ pub nothing-behind : (s : List ℕ) (a : ℕ) → drop (length s - a) (drop a s)
 nothing-behind s a = drop-of-length-le (drop a s) {i = length s - a} (simp length-drop (omega arith))
 
 -- rows dropped
-module _ (s : List ℕ) (n count : ℕ) (a : Arrival) (v : Vector) (O : Opened s n count) where
-  abbrev base : ℕ
-  base = clockAt + n + n * n
-
+module _ (s : List ℕ) (n count : ℕ) (a : Arrival) (v : Vector) (O : Opened s n count) (base : ℕ) (start : base ≡ rowsAt n) where
   abbrev part : List ℕ
   part = take (length s - base) (drop base s)
 
   pub rows-fit : count * (7 + n) ≤ length part
-  rows-fit = rw (all-of s base, length-drop base s) (omega (arith, O .room))
+  rows-fit = rw (all-of s base, length-drop base s) (omega (arith, O .room, start))
 
   left-words : List (List ℕ)
   left-words = those (λ (ws : List ℕ). not (rowGoes a v ws)) (rowsIn s)
 
   staying-is : staying a v (7 + n) count part ≡ left-words
   unfolding leftBy left-words
-  staying-is = rw (all-of s base, O .size-is, O .count-is) refl
+  staying-is = rw (all-of s base, start, O .size-is, O .count-is) refl
 
   rows-are : length (rowsLeft a v (tableOf s)) ≡ length left-words
   unfolding rowsLeft tableOf left-words
@@ -71,7 +68,7 @@ module _ (s : List ℕ) (n count : ℕ) (a : Arrival) (v : Vector) (O : Opened s
       set (take base s ++ (x ++ drop (length s - base) (drop base s))) 5 k ≡ rewritten s (withRows (tableOf s) (rowsLeft a v (tableOf s)))
   unfolding rowsLeft left-words
   dropped k x c e =
-      rw (nothing-behind s base, append-nil, O .size-is)
+      rw (nothing-behind s base, append-nil, start, O .size-is)
       (put-filtered s (O .laid) (λ (row : Row). not (goes (a .kind) (operationOf a v) row)) x k
-      (rw (staying-is, all-of s base, O .size-is, O .count-is) at e)
+      (rw (staying-is, all-of s base, start, O .size-is, O .count-is) at e)
       (rw staying-is at c))

@@ -10,7 +10,7 @@ use lib.Seq.{drop-drop}
 use Rattle.meaning.specs.Rows.{Row, insertRow}
 use Rattle.meaning.specs.Calls.{withRows}
 use Rattle.words_layout.specs.Words.{pieces, flat, padded}
-use Rattle.words_layout.specs.Layout.{Laid, rowOf, rowWords, tableOf, rewritten, beyond, sizeIn, capacityIn, countIn, rowsIn, rowsAt, clockAt}
+use Rattle.words_layout.specs.Layout.{Laid, rowOf, rowWords, tableOf, rewritten, beyond, sizeIn, capacityIn, countIn, rowsIn, rowsAt}
 use Rattle.words_layout.proofs.Pieces.{length-pieces, length-flat}
 use Rattle.words_layout.proofs.Whole.{rows-wide, each-spelt, after-rows, put-rows, zeros-drop}
 use Rattle.table_insert.specs.Placing.{inserted}
@@ -18,10 +18,7 @@ use Rattle.table_insert.proofs.Ordering.{inserted-rows, inserted-spelt, inserte
 use Rattle.table_change.specs.Changes.{Opened}
 use Rattle.table_change.proofs.Changing.{all-of, nothing-behind}
 
-module _ (s key v : List ℕ) (n count : ℕ) (O : Opened s n count) (less : count < capacityIn s) (seven : length key ≡ 7) (long : length v ≡ n) (spelt : rowWords n (rowOf (key ++ v)) ≡ key ++ v) where
-  abbrev base : ℕ
-  base = clockAt + n + n * n
-
+module _ (s key v : List ℕ) (n count : ℕ) (O : Opened s n count) (less : count < capacityIn s) (seven : length key ≡ 7) (long : length v ≡ n) (spelt : rowWords n (rowOf (key ++ v)) ≡ key ++ v) (base : ℕ) (start : base ≡ rowsAt n) where
   abbrev part : List ℕ
   part = take (length s - base) (drop base s)
 
@@ -29,7 +26,7 @@ module _ (s key v : List ℕ) (n count : ℕ) (O : Opened s n count) (less : cou
   wider = let h : suc count * (7 + n) ≤ capacityIn s * (7 + n) = mul-le-mul-right (7 + n) less in omega (arith, suc-mul count (7 + n))
 
   room : base + capacityIn s * (7 + n) ≤ length s
-  room = rw (O .size-is) (O .laid .room)
+  room = rw (start, O .size-is) (O .laid .room)
 
   pub insert-room : count * (7 + n) + (7 + n) ≤ length part
   insert-room = rw (all-of s base, length-drop base s) (omega (arith, room, wider))
@@ -71,9 +68,9 @@ module _ (s key v : List ℕ) (T : Laid s) (less : countIn s < capacityIn s) (se
       rw (whole, sym many) (put-rows s T rs (inserted-spelt (sizeIn s) key v seven spelt (rowsIn s) (each-spelt s T)) ∙ ap (λ (rows : List Row). rewritten s (withRows (tableOf s) rows)) (inserted-rows (sizeIn s) key v seven spelt (rowsIn s) (each-spelt s T)))
 
 -- with the numbers in hand
-pub put-in : (s key v : List ℕ) (n count : ℕ) → Opened s n count → count < capacityIn s → length key ≡ 7 → length v ≡ n → rowWords n (rowOf (key ++ v)) ≡ key ++ v → (x : List ℕ) →
-    x ≡ flat (inserted key v (pieces (7 + n) count (take (length s - (clockAt + n + n * n)) (drop (clockAt + n + n * n) s)))) ++ drop (count * (7 + n) + (7 + n)) (take (length s - (clockAt + n + n * n)) (drop (clockAt + n + n * n) s)) →
-    set (take (clockAt + n + n * n) s ++ (x ++ drop (length s - (clockAt + n + n * n)) (drop (clockAt + n + n * n) s))) 5 (count + 1) ≡ rewritten s (withRows (tableOf s) (insertRow (rowOf (key ++ v)) (tableOf s .rows)))
-put-in s key v n count O less seven long spelt x f =
-    rw (nothing-behind s (clockAt + n + n * n), append-nil, O .size-is, O .count-is)
-    (put-own s key v (O .laid) (rw (O .count-is) at less) seven (long ∙ O .size-is) (rw (O .size-is) at spelt) x (rw (all-of s (clockAt + n + n * n), O .size-is, O .count-is) at f))
+pub put-in : (s key v : List ℕ) (n count : ℕ) → Opened s n count → count < capacityIn s → length key ≡ 7 → length v ≡ n → rowWords n (rowOf (key ++ v)) ≡ key ++ v → (base : ℕ) → base ≡ rowsAt n → (x : List ℕ) →
+    x ≡ flat (inserted key v (pieces (7 + n) count (take (length s - base) (drop base s)))) ++ drop (count * (7 + n) + (7 + n)) (take (length s - base) (drop base s)) →
+    set (take base s ++ (x ++ drop (length s - base) (drop base s))) 5 (count + 1) ≡ rewritten s (withRows (tableOf s) (insertRow (rowOf (key ++ v)) (tableOf s .rows)))
+put-in s key v n count O less seven long spelt base start x f =
+    rw (nothing-behind s base, append-nil, start, O .size-is, O .count-is)
+    (put-own s key v (O .laid) (rw (O .count-is) at less) seven (long ∙ O .size-is) (rw (O .size-is) at spelt) x (rw (all-of s base, start, O .size-is, O .count-is) at f))

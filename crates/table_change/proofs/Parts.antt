@@ -10,15 +10,11 @@ use lib.ListN.{length, getD, take, drop, set, length-drop}
 use lib.Seq.{paste, take-all, drop-drop, length-take-le}
 use Rattle.meaning.specs.Order.{entryLimit, raised}
 use Rattle.words_layout.specs.Layout.{tableOf, rewritten, sizeIn, withClock, withLast, clockAt}
+use Rattle.words_layout.proofs.Reading.{clock-part}
 use Rattle.words_layout.proofs.Changing.{put-clock, put-last}
 use Rattle.table_change.specs.Changes.{Opened, entryBelowLimit}
 
 module _ (s : List ℕ) (n count : ℕ) (O : Opened s n count) where
-  -- the part that is lent is D
-  clock-part : take (clockAt + n - clockAt) (drop clockAt s) ≡ tableOf s .clock
-  unfolding tableOf
-  clock-part = let q : clockAt + n - clockAt ≡ n = omega arith in rw (q, O .size-is) refl
-
   pub clock-end : clockAt + n ≤ length s
   clock-end = omega (arith, O .room)
 
@@ -26,12 +22,12 @@ module _ (s : List ℕ) (n count : ℕ) (O : Opened s n count) where
   clock-long k h = let q : clockAt + n - clockAt ≡ n = omega arith in rw (q, length-take-le n (drop clockAt s) (simp length-drop (omega (arith, clock-end)))) h
 
   pub clock-below : (k : ℕ) → entryBelowLimit (tableOf s) k → getD (take (clockAt + n - clockAt) (drop clockAt s)) k 0 + 1 < entryLimit
-  clock-below k h = rw clock-part h
+  clock-below k h = rw (clock-part s n (O .size-is)) h
 
   pub advanced : (k : ℕ) (d : List ℕ) → d ≡ raised (take (clockAt + n - clockAt) (drop clockAt s)) k → take clockAt s ++ (d ++ drop (clockAt + n - clockAt) (drop clockAt s)) ≡ rewritten s (withClock (tableOf s) (raised (tableOf s .clock) k))
   advanced k d e =
       let q : clockAt + n - clockAt ≡ sizeIn s = omega (arith, O .size-is) in
-      rw q (put-clock s (O .laid) d ∙ ap (λ (c : List ℕ). rewritten s (withClock (tableOf s) c)) (e ∙ ap (λ (c : List ℕ). raised c k) clock-part))
+      rw q (put-clock s (O .laid) d ∙ ap (λ (c : List ℕ). rewritten s (withClock (tableOf s) c)) (e ∙ ap (λ (c : List ℕ). raised c k) (clock-part s n (O .size-is))))
 
   -- the station's place as the code has it
   module _ (k r : ℕ) (h : k < n) (same : r ≡ k) where

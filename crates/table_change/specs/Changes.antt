@@ -21,7 +21,7 @@ pub record Opened (words : List ℕ) (size count : ℕ) : Type 0 where
   pub count-is : count ≡ countIn words
   pub few : size ≤ greatestSize
   pub less : count ≤ greatestCapacity size
-  pub square : size * size ≤ 256
+  pub square : size * size ≤ greatestSize * greatestSize
   pub area : count * rowWidth size ≤ mostRowWords
   pub room : rowsAt size + count * rowWidth size ≤ length words
 

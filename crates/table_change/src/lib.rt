@@ -79,7 +79,7 @@ pub fn drop_going(s: &mut [u32], size: usize, count: RowCount, a: Arrival, v: &[
     ensures { λ r. ⌜ (r .0 ≡ length (rowsLeft a (now (v .entry)) (tableOf (now (s .entry))))) × (now (s .exit) ≡ rewritten (now (s .entry)) (withRows (tableOf (now (s .entry))) (rowsLeft a (now (v .entry)) (tableOf (now (s .entry)))))) ⌝ }
 {
     let width = KEY + size;
-    let base = CLOCK_AT + size + size * size;
+    let base = table_ranges::rows_at(size);
     let left = table_drop::drop_rows(&mut s[base..], width, count, a, v);
     s[COUNT_AT] = left.0;
     left
@@ -92,7 +92,7 @@ pub fn put_row(s: &mut [u32], size: usize, count: RowCount, key: &[u32], v: &[u3
     ensures { λ _. ⌜ now (s .exit) ≡ rewritten (now (s .entry)) (withRows (tableOf (now (s .entry))) (insertRow (rowOf (now (key .entry) ++ now (v .entry))) (tableOf (now (s .entry)) .rows))) ⌝ }
 {
     let width = KEY + size;
-    let base = CLOCK_AT + size + size * size;
+    let base = table_ranges::rows_at(size);
     table_insert::insert_row(&mut s[base..], width, count, key, v);
     s[COUNT_AT] = count.0 + 1;
 }

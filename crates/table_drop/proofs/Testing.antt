@@ -22,12 +22,12 @@ use Rattle.table_drop.specs.declared.Arrival.{Arrival}
 use Rattle.table_drop.specs.Arriving.{operationOf, concernsValue, isKept, goes}
 
 -- a value is compared by its words
-module _ (high low rh rl : ℕ) (a : low < wordLimit) (b : rl < wordLimit) where
-  value-other : (high ≡ rh → ⊥) → eqb (ofTwoWords high low) (ofTwoWords rh rl) ≡ false
-  value-other h = ne-eqb (ofTwoWords high low) (ofTwoWords rh rl) (λ e. h (omega arith))
+module _ (value high low : ℕ) where
+  value-other : value < wordLimit → (high ≡ 0 → ⊥) → ofTwoWords high low ≡ value → ⊥
+  value-other fits h e = h (omega arith)
 
-  value-low : high ≡ rh → eqb low rl ≡ eqb (ofTwoWords high low) (ofTwoWords rh rl)
-  value-low h = iff (eqb low rl) (eqb (ofTwoWords high low) (ofTwoWords rh rl)) (λ e. eq-eqb (ofTwoWords high low) (ofTwoWords rh rl) (omega (arith, eqb-true low rl e))) (λ e. eq-eqb low rl (omega (arith, eqb-true (ofTwoWords high low) (ofTwoWords rh rl) e)))
+  value-low : high ≡ 0 → ofTwoWords high low ≡ low
+  value-low h = omega arith
 
 module _ (a : Arrival) (high low : ℕ) where
   pub concerns-register : a .kind ≡ 7 → true ≡ concernsValue a high low
@@ -36,12 +36,12 @@ module _ (a : Arrival) (high low : ℕ) where
   pub concerns-clear : a .code ≡ 3 → true ≡ concernsValue a high low
   concerns-clear e = cases (eqb (a .kind) 7) (λ p. rw p refl) (λ p. rw (p, eq-eqb (a .code) 3 e) refl)
 
-  module _ (k : a .kind ≡ 7 → ⊥) (c : a .code ≡ 3 → ⊥) (fa : a .low < wordLimit) (fb : low < wordLimit) where
-    pub concerns-other : (a .high ≡ high → ⊥) → false ≡ concernsValue a high low
-    concerns-other h = rw (ne-eqb (a .kind) 7 k, ne-eqb (a .code) 3 c, value-other (a .high) (a .low) high low fa fb h) refl
+  module _ (k : a .kind ≡ 7 → ⊥) (c : a .code ≡ 3 → ⊥) where
+    pub concerns-other : a .value .0 < wordLimit → (high ≡ 0 → ⊥) → false ≡ concernsValue a high low
+    concerns-other fits h = rw (ne-eqb (a .kind) 7 k, ne-eqb (a .code) 3 c, ne-eqb (a .value .0) (ofTwoWords high low) (λ e. value-other (a .value .0) high low fits h (sym e))) refl
 
-    pub concerns-low : a .high ≡ high → eqb (a .low) low ≡ concernsValue a high low
-    concerns-low h = rw (ne-eqb (a .kind) 7 k, ne-eqb (a .code) 3 c) (value-low (a .high) (a .low) high low fa fb h)
+    pub concerns-low : high ≡ 0 → eqb (a .value .0) low ≡ concernsValue a high low
+    concerns-low h = rw (ne-eqb (a .kind) 7 k, ne-eqb (a .code) 3 c, value-low (a .value .0) high low h) refl
 
 -- the same object and value
 module _ (row v : List ℕ) (a : Arrival) where
@@ -49,17 +49,14 @@ module _ (row v : List ℕ) (a : Arrival) where
   unfolding sameValue on
   same-other-object h = rw (ne-eqb (getD row 0 0) (a .object) h) refl
 
-  module _ (o : getD row 0 0 ≡ a .object) (fa : a .low < wordLimit) (known : (i : ℕ) → Fits w32 (getD row i 0)) where
-    fb : getD row 2 0 < wordLimit
-    fb = omega (arith, known 2)
-
-    pub same-other-high : (getD row 1 0 ≡ a .high → ⊥) → false ≡ sameValue (operationOf a v) (rowOf row)
+  module _ (o : getD row 0 0 ≡ a .object) where
+    pub same-other-high : a .value .0 < wordLimit → (getD row 1 0 ≡ 0 → ⊥) → false ≡ sameValue (operationOf a v) (rowOf row)
     unfolding sameValue on
-    same-other-high h = rw (eq-eqb (getD row 0 0) (a .object) o, value-other (getD row 1 0) (getD row 2 0) (a .high) (a .low) fb fa h) refl
+    same-other-high fits h = rw (eq-eqb (getD row 0 0) (a .object) o, ne-eqb (ofTwoWords (getD row 1 0) (getD row 2 0)) (a .value .0) (value-other (a .value .0) (getD row 1 0) (getD row 2 0) fits h)) refl
 
-    pub same-low : getD row 1 0 ≡ a .high → eqb (getD row 2 0) (a .low) ≡ sameValue (operationOf a v) (rowOf row)
+    pub same-low : getD row 1 0 ≡ 0 → eqb (getD row 2 0) (a .value .0) ≡ sameValue (operationOf a v) (rowOf row)
     unfolding sameValue on
-    same-low h = rw (eq-eqb (getD row 0 0) (a .object) o) (value-low (getD row 1 0) (getD row 2 0) (a .high) (a .low) fb fa h)
+    same-low h = rw (eq-eqb (getD row 0 0) (a .object) o, value-low (a .value .0) (getD row 1 0) (getD row 2 0) h) refl
 
   -- what the arrival takes
   abbrev taken : Bool

@@ -17,7 +17,7 @@ abbrev pub operationOf : Arrival → Vector → Operation
 operationOf a vector = record {
   object = a .object;
   code = a .code;
-  value = ofTwoWords (a .high) (a .low);
+  value = a .value .0;
   sender = a .sender .0;
   vector = vector;
 }
@@ -25,7 +25,7 @@ operationOf a vector = record {
 -- Whether it concerns a row of its object with this value.
 abbrev pub concernsValue : Arrival → ℕ → ℕ → Bool
 concernsValue a high low =
-    eqb (a .kind) multiValueRegister || (eqb (a .code) clears || eqb (ofTwoWords (a .high) (a .low)) (ofTwoWords high low))
+    eqb (a .kind) multiValueRegister || (eqb (a .code) clears || eqb (a .value .0) (ofTwoWords high low))
 
 -- Kinds 3 and 4 keep settled rows.
 abbrev pub isKept : ℕ → Bool

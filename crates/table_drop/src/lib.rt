@@ -14,19 +14,20 @@ use table_kinds::MULTI_VALUE_REGISTER;
 use table_kinds::TWO_PHASE_SET;
 use words_layout::HIGH_AT;
 use words_layout::LOW_AT;
+use words_layout::NO_HIGH;
 use words_layout::OBJECT_AT;
 use words_layout::UNSETTLED_AT;
 use words_layout::VECTOR_AT;
 use words_tags::RowCount;
 use words_tags::Station;
+use words_tags::Value;
 
 // What arrives, with the kind of its object; its vector is lent beside it.
 pub struct Arrival {
     pub kind: u32,
     pub object: u32,
     pub code: u32,
-    pub high: u32,
-    pub low: u32,
+    pub value: Value,
     pub sender: Station,
 }
 
@@ -38,10 +39,10 @@ pub fn same_value(row: &[u32], a: Arrival, v: &[u32]) -> bool
     if row[OBJECT_AT] != a.object {
         return false;
     }
-    if row[HIGH_AT] != a.high {
+    if row[HIGH_AT] != NO_HIGH {
         return false;
     }
-    row[LOW_AT] == a.low
+    row[LOW_AT] == a.value.0
 }
 
 // Whether the arrival concerns a row's value, where the objects are the same.
@@ -54,10 +55,10 @@ fn concerns(a: Arrival, high: u32, low: u32) -> bool
     if a.code == CLEARS {
         return true;
     }
-    if a.high != high {
+    if high != NO_HIGH {
         return false;
     }
-    a.low == low
+    a.value.0 == low
 }
 
 // Whether the arrival takes the row, in kinds 5 to 9.

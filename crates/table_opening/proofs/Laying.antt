@@ -1,5 +1,5 @@
 -- The words of a fresh table: a head, the kinds, and zeros.
-use Prim.Native.Nat.{ℕ, zero, suc, _+_, _-_, _*_, _≤_, _<_}
+use Prim.Native.Nat.{ℕ, zero, suc, _+_, _-_, _*_, _≤_}
 use mathlib.Core.Path.{_≡_, refl, sym, ap, subst, _∙_}
 use mathlib.Core.Bool.{true}
 use mathlib.Core.List.{List, [], _∷_, _++_, append-assoc}
@@ -8,21 +8,18 @@ use native.Mathlib.Omega.{arith}
 use mir.Val.{Fits}
 use mir.Syntax.{w32}
 use lib.IntN.{pos}
-use lib.ListN.{length, getD, take, drop, set, replicate, length-replicate, replicate-append-replicate}
+use lib.ListN.{length, take, drop, replicate, length-replicate, replicate-append-replicate}
 use lib.Seq.{paste, take-all, take-at, drop-at, drop-drop}
 use Rattle.meaning.specs.Table.{Header, inRange, zeros, opened, greatestSize, greatestCapacity, mostObjects}
 use Rattle.meaning.proofs.TableFacts.{HeaderFacts, header-facts}
 use Rattle.words_layout.specs.Words.{complement, flat}
 use Rattle.words_layout.specs.Layout.{wordsOf, totalsWords, spaceFor, tableMark, clockAt, totalsWidth}
+use Rattle.words_layout.proofs.Whole.{zeros-drop, zeros-join}
 use Rattle.words_layout.proofs.Reading.{in-a-row}
-use Rattle.words_moves.proofs.Moving.{put-turn as put-one}
 use Rattle.table_ranges.specs.Headers.{headerOf}
 use Rattle.table_opening.specs.Opening.{headed}
 
 -- zeros one after the other
-zeros-join : (a b : ℕ) (x : List ℕ) → replicate a 0 ++ (replicate b 0 ++ x) ≡ replicate (a + b) 0 ++ x
-zeros-join a b x = sym (append-assoc (replicate a 0) (replicate b 0) x) ∙ rw (replicate-append-replicate {A = ℕ} a b 0) refl
-
 flat-zeros : (n k : ℕ) → flat (replicate n (replicate k 0)) ≡ replicate (n * k) 0
 flat-zeros zero k = rw (zero-mul k) refl
 flat-zeros (suc n) k = rw (flat-zeros n k, replicate-append-replicate {A = ℕ} k (n * k) 0) (let e : k + n * k ≡ suc n * k = omega (arith, suc-mul n k) in rw e refl)
@@ -31,11 +28,6 @@ totals-zero : (n : ℕ) → totalsWords (replicate n (pos 0)) ≡ replicate (n *
 unfolding complement
 totals-zero zero = refl
 totals-zero (suc n) = let e : suc n * 2 ≡ suc (suc (n * 2)) = omega arith in rw e (ap (λ (l : List ℕ). 0 ∷ 0 ∷ l) (totals-zero n))
-
-zeros-drop : (m k : ℕ) (x : List ℕ) → k ≤ m → drop k (replicate m 0 ++ x) ≡ replicate (m - k) 0 ++ x
-zeros-drop m zero x h = let e : m - 0 ≡ m = omega arith in rw e refl
-zeros-drop zero (suc k) x h = absurd (omega arith)
-zeros-drop (suc m) (suc k) x h = let e : suc m - suc k ≡ m - k = omega arith in rw e (zeros-drop m k x (omega arith))
 
 -- a fresh table in words
 pub fresh-words : (header : Header) (x : List ℕ) → length (header .kinds) ≤ mostObjects →
@@ -53,10 +45,6 @@ fresh-words header x few =
     rw (totals-zero c, long, flat-zeros n n)
     (in-a-row (tableMark ∷ n ∷ header .own ∷ header .capacity ∷ c ∷ 0 ∷ 0 ∷ []) (kinds ++ replicate (mostObjects - c) 0) (replicate (c * 2) 0 ++ replicate (totalsWidth - c * 2) 0) (replicate n 0) (replicate (n * n) 0) (replicate (w - 0) 0) x
     ∙ ap (λ (l : List ℕ). tableMark ∷ n ∷ header .own ∷ header .capacity ∷ c ∷ 0 ∷ 0 ∷ l) (append-assoc kinds (replicate (mostObjects - c) 0) _ ∙ ap (λ (l : List ℕ). kinds ++ (replicate (mostObjects - c) 0 ++ l)) (append-assoc (replicate (c * 2) 0) (replicate (totalsWidth - c * 2) 0) _) ∙ ap (λ (l : List ℕ). kinds ++ l) rest))
-
--- a turn of writing the kinds
-pub put-turn : (s t new : List ℕ) (at j r : ℕ) → at + length new ≤ length s → j < length new → r ≡ getD new j 0 → t ≡ paste s at new j → set t (at + j) r ≡ paste s at new (j + 1)
-put-turn s t new at j r h k e inv = rw e (put-one s t new at j h k inv)
 
 -- zeros, then a head, then the kinds
 module _ (s head kinds : List ℕ) (needed : ℕ) (seven : length head ≡ 7) (fit : 7 + length kinds ≤ needed) (room : needed ≤ length s) where

@@ -21,9 +21,9 @@ use Rattle.meaning.proofs.TableFacts.{HeaderFacts, header-facts}
 use Rattle.words_layout.specs.Words.{allZero, pieces, flat, padded, wordLimit}
 use Rattle.words_layout.specs.Layout.{Laid, totalWords, totalOfWords, totalsWords, rowWords, rowOf, headWords, rowsWords, wordsOf, tableOf, rewritten, beyond, spaceFor, rowsAt, rowsIn, sizeIn, ownIn, capacityIn, objectsIn, countIn, isSpelt, holdsTable, clockAt, totalsAt, totalsWidth}
 use Rattle.words_layout.proofs.Pieces.{Wide, Each, length-pieces, length-flat, wide-pieces}
-use Rattle.words_layout.proofs.RowWords.{Spelt, row-written}
+use Rattle.words_layout.proofs.RowWords.{Spelt}
 use Rattle.words_layout.proofs.Whole.{length-padded, wide-totals, each-spelt, after-rows}
-use Rattle.words_layout.proofs.Spelling.{Spelling, spelt-back}
+use Rattle.words_layout.proofs.Spelling.{Spelling, rows-kept, spelt-back}
 use Rattle.words_layout.proofs.Changing.{spread}
 use Rattle.table_rules_rows.specs.RowTests.{rowKept, follows, chained, rowsKept}
 use Rattle.table_rules_rows.proofs.RowMeaning.{zeros-are, are-zeros, kept-spelt, kept-rule, rule-kept}
@@ -93,10 +93,6 @@ module _ (n : ℕ) (table : Table) (e : table .header .size ≡ n) where
       and-both (p r) (every p l)
       (rule-kept table r (w .0 ∙ ap (λ (m : ℕ). 7 + m) (sym e)) (rw (e) (b .0)) (and-left (rowRule table (rowOf r)) (every (rowRule table) (map rowOf l)) k))
       (all-kept l (w .1) (b .1) (and-right (rowRule table (rowOf r)) (every (rowRule table) (map rowOf l)) k))
-
-all-written : (n : ℕ) (l : List (List ℕ)) → Each (Spelt n) l → Each (λ (ws : List ℕ). rowWords n (rowOf ws) ≡ ws) l
-all-written n [] h = tt
-all-written n (r ∷ l) h = (row-written n r (h .0), all-written n l (h .1))
 
 all-readable : (n : ℕ) (l : List (List ℕ)) → Wide (7 + n) l → Each (λ (ws : List ℕ). getD ws 2 0 < wordLimit) l → Each (λ (ws : List ℕ). rowWords n (rowOf ws) ≡ ws) l → Each (Readable n) l
 all-readable n [] w f b = tt
@@ -208,7 +204,7 @@ module _ (s : List ℕ) (H : Headed s) where
       rows-spelt = all-spelt (sizeIn s) (tableOf s) refl (rowsIn s) wide-rows low-rows each-row
 
       readable : Each (Readable (sizeIn s)) (rowsIn s)
-      readable = all-readable (sizeIn s) (rowsIn s) wide-rows low-rows (all-written (sizeIn s) (rowsIn s) rows-spelt)
+      readable = all-readable (sizeIn s) (rowsIn s) wide-rows low-rows (rows-kept (sizeIn s) (rowsIn s) rows-spelt)
 
       spelling : Spelling s
       unfolding kindsKept totalsKept unusedKept

@@ -19,6 +19,6 @@ pub record Checked (words : List ℕ) : Type 0 where
   pub objects : objectsIn words ≤ mostObjects
   pub within : countIn words ≤ capacityIn words
   pub long : clockAt ≤ length words
-  pub square : sizeIn words * sizeIn words ≤ 256
+  pub square : sizeIn words * sizeIn words ≤ greatestSize * greatestSize
   pub area : countIn words * rowWidth (sizeIn words) ≤ mostRowWords
   pub room : rowsAt (sizeIn words) + countIn words * rowWidth (sizeIn words) ≤ length words

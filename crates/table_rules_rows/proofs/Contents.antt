@@ -1,40 +1,26 @@
 -- What a row's kind lets it hold.
 use Prim.Native.Nat.{ℕ, _+_, _*_, _≤_, _<_}
-use mathlib.Core.Path.{_≡_, refl, sym, subst, _∙_}
+use mathlib.Core.Path.{_≡_, refl, sym, _∙_}
 use mathlib.Core.Bool.{Bool, true, false, not, _&&_, _||_, cond}
-use mathlib.Core.List.{List, [], _∷_}
+use mathlib.Core.List.{List, []}
 use native.Mathlib.Omega.{arith}
 use borrow.Author.Tests.{eqb-true, eqb-false, ne-eqb, lt-ltb, le-ltb}
 use mir.Val.{Fits}
 use mir.Syntax.{w32}
 use lib.Dec.{eqb, ltb}
-use lib.ListN.{length, getD, List·getD-eq-default}
+use lib.ListN.{getD}
 use Rattle.meaning.specs.Operations.{Operation, isCounter, isFlag, codesOf, codeAllowed, valueAllowed, valueLimit}
 use Rattle.meaning.specs.Arrival.{getsRow}
 use Rattle.meaning.specs.Table.{storable}
 use Rattle.meaning.proofs.Tests.{cases, and-left, and-right, not-holds}
 use Rattle.words_layout.specs.Layout.{rowOf}
+use Rattle.table_kinds.proofs.KindLaws.{by-row-kind, no-codes}
 use Rattle.table_rules_rows.specs.RowTests.{contentKept}
 use Rattle.words_layout.specs.Words.{wordLimit}
-
--- a fact of each kind that keeps rows
-pub by-kind : (P : ℕ → Type 0) → P 3 → P 4 → P 5 → P 6 → P 7 → P 8 → P 9 → (k : ℕ) → 3 ≤ k → k ≤ 9 → P k
-by-kind P p3 p4 p5 p6 p7 p8 p9 k low high =
-    at 3 p3 (λ n3. at 4 p4 (λ n4. at 5 p5 (λ n5. at 6 p6 (λ n6. at 7 p7 (λ n7. at 8 p8 (λ n8. subst P (omega arith) p9))))))
-  where
-    at : (m : ℕ) → P m → ((k ≡ m → ⊥) → P k) → P k
-    at m p f = cases (eqb k m) (λ e. subst P (sym (eqb-true k m e)) p) (λ e. f (eqb-false k m e))
 
 -- what a code says of an operation, whatever else the operation is
 abbrev storedAs : ℕ → ℕ → Bool
 storedAs kind code = storable kind (record { object = 0; code = code; value = 0; sender = 0; vector = [] })
-
-past-ten : (l : List (List ℕ)) (k : ℕ) → length l ≡ 10 → 9 < k → getD l k [] ≡ []
-past-ten l k e h = List·getD-eq-default l [] (omega arith)
-
-no-codes : (kind : ℕ) → 9 < kind → codesOf kind ≡ []
-unfolding codesOf
-no-codes kind h = past-ten ([] ∷ (1 ∷ []) ∷ (1 ∷ 2 ∷ []) ∷ (1 ∷ []) ∷ (1 ∷ 2 ∷ []) ∷ (1 ∷ 2 ∷ []) ∷ (1 ∷ 2 ∷ []) ∷ (1 ∷ 3 ∷ []) ∷ (1 ∷ 2 ∷ 3 ∷ []) ∷ (1 ∷ 2 ∷ 3 ∷ []) ∷ []) kind refl h
 
 no-kind : (kind code : ℕ) → 9 < kind → codeAllowed kind code ≡ false
 unfolding codeAllowed
@@ -53,19 +39,19 @@ module _ (kind : ℕ) (row : List ℕ) where
   module _ (low : 3 ≤ kind) (high : kind ≤ 9) where
     pub stores-adds : getD row 3 0 ≡ 1 → true ≡ storable kind (rowOf row .operation)
     unfolding storable isCounter codeAllowed codesOf getsRow
-    stores-adds e = by-kind (λ (k : ℕ). true ≡ storedAs k (getD row 3 0)) (rw e refl) (rw e refl) (rw e refl) (rw e refl) (rw e refl) (rw e refl) (rw e refl) kind low high
+    stores-adds e = by-row-kind (λ (k : ℕ). true ≡ storedAs k (getD row 3 0)) (rw e refl) (rw e refl) (rw e refl) (rw e refl) (rw e refl) (rw e refl) (rw e refl) kind low high
 
     pub stores-no-other : (getD row 3 0 ≡ 1 → ⊥) → (getD row 3 0 ≡ 2 → ⊥) → false ≡ storable kind (rowOf row .operation)
     unfolding storable isCounter codeAllowed codesOf getsRow
     stores-no-other a b =
         cases (eqb (getD row 3 0) 3)
-        (λ e. let c = eqb-true (getD row 3 0) 3 e in by-kind (λ (k : ℕ). false ≡ storedAs k (getD row 3 0)) (rw c refl) (rw c refl) (rw c refl) (rw c refl) (rw c refl) (rw c refl) (rw c refl) kind low high)
+        (λ e. let c = eqb-true (getD row 3 0) 3 e in by-row-kind (λ (k : ℕ). false ≡ storedAs k (getD row 3 0)) (rw c refl) (rw c refl) (rw c refl) (rw c refl) (rw c refl) (rw c refl) (rw c refl) kind low high)
         (λ e. let f = ne-eqb (getD row 3 0) 1 a in let g = ne-eqb (getD row 3 0) 2 b in
-        by-kind (λ (k : ℕ). false ≡ storedAs k (getD row 3 0)) (rw f refl) (rw (f, g) refl) (rw (f, g) refl) (rw (f, g) refl) (rw (f, e) refl) (rw (f, g, e) refl) (rw (f, g, e) refl) kind low high)
+        by-row-kind (λ (k : ℕ). false ≡ storedAs k (getD row 3 0)) (rw f refl) (rw (f, g) refl) (rw (f, g) refl) (rw (f, g) refl) (rw (f, e) refl) (rw (f, g, e) refl) (rw (f, g, e) refl) kind low high)
 
     pub stores-removes : getD row 3 0 ≡ 2 → (kind ≡ 4 → ⊥) → (kind ≡ 6 → ⊥) → eqb kind 9 ≡ storable kind (rowOf row .operation)
     unfolding storable isCounter codeAllowed codesOf getsRow
-    stores-removes e a b = by-kind (λ (k : ℕ). (k ≡ 4 → ⊥) → (k ≡ 6 → ⊥) → eqb k 9 ≡ storedAs k (getD row 3 0))
+    stores-removes e a b = by-row-kind (λ (k : ℕ). (k ≡ 4 → ⊥) → (k ≡ 6 → ⊥) → eqb k 9 ≡ storedAs k (getD row 3 0))
         (λ a b. rw e refl) (λ a b. absurd (a refl)) (λ a b. rw e refl) (λ a b. absurd (b refl)) (λ a b. rw e refl) (λ a b. rw e refl) (λ a b. rw e refl) kind low high a b
 
   pub stores-removes-4 : getD row 3 0 ≡ 2 → kind ≡ 4 → true ≡ storable kind (rowOf row .operation)

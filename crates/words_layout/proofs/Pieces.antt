@@ -1,12 +1,12 @@
 -- Laws of pieces of one width in a list of words.
-use Prim.Native.Nat.{ℕ, zero, suc, _+_, _-_, _*_, _≤_}
+use Prim.Native.Nat.{ℕ, zero, suc, _+_, _*_, _≤_, _<_}
 use mathlib.Core.Path.{_≡_, refl, sym, ap, _∙_}
 use mathlib.Core.Bool.{Bool, true, false, cond}
 use mathlib.Core.List.{List, [], _∷_, _++_, append-assoc, map}
 use native.Mathlib.Omega.{arith}
 use native.Mathlib.Nat.{suc-mul, zero-mul}
-use lib.ListN.{length, take, drop, length-drop, length-append}
-use lib.Seq.{take-add, take-at, drop-at, length-take-le}
+use lib.ListN.{length, getD, take, drop, length-drop, length-append}
+use lib.Seq.{take-add, take-at, drop-at, drop-drop, length-take-le, getD-take, getD-drop}
 use Rattle.meaning.specs.Tests.{those}
 use Rattle.words_layout.specs.Words.{pieces, flat}
 
@@ -22,6 +22,17 @@ flat-pieces w (suc k) s = let e : suc k * w ≡ w + k * w = omega (arith, suc-mu
 pub length-pieces : (w k : ℕ) (s : List ℕ) → length (pieces w k s) ≡ k
 length-pieces w zero s = refl
 length-pieces w (suc k) s = ap suc (length-pieces w k (drop w s))
+
+pub piece-at : (w count k : ℕ) (s : List ℕ) → k < count → getD (pieces w count s) k [] ≡ take w (drop (k * w) s)
+piece-at w zero k s h = absurd (omega arith)
+piece-at w (suc count) zero s h = let z : 0 * w ≡ 0 = zero-mul w in rw z refl
+piece-at w (suc count) (suc k) s h =
+    let e : suc k * w ≡ w + k * w = omega (arith, suc-mul k w) in
+    rw e (piece-at w count k (drop w s) (omega arith) ∙ ap (take w) (drop-drop (k * w) w s))
+
+-- a word of the piece at a place
+pub word-at : (s : List ℕ) (w at i : ℕ) → i < w → getD (take w (drop at s)) i 0 ≡ getD s (at + i) 0
+word-at s w at i h = getD-take w (drop at s) i 0 h ∙ getD-drop at s i 0
 
 pub length-flat : (w : ℕ) (rs : List (List ℕ)) → Wide w rs → length (flat rs) ≡ length rs * w
 length-flat w [] h = sym (zero-mul w)

@@ -12,10 +12,19 @@ use lib.Seq.{take-at, drop-at, drop-drop, take-append-seam}
 use Rattle.meaning.specs.Rows.{Row}
 use Rattle.meaning.specs.Table.{Table, mostObjects}
 use Rattle.words_layout.specs.Words.{complement, ofComplement, pieces, flat, padded, wordLimit}
-use Rattle.words_layout.specs.Layout.{tableMark, totalWords, totalOfWords, totalsWords, rowWords, rowOf, rowsWords, wordsOf, tableOf, rowsAt, clockAt, totalsAt, totalsWidth}
+use Rattle.words_layout.specs.Layout.{tableMark, totalWords, totalOfWords, totalsWords, rowWords, rowOf, rowsWords, wordsOf, tableOf, sizeIn, objectsIn, rowsAt, kindsAt, clockAt, totalsAt, totalsWidth}
 use Rattle.words_layout.proofs.Pieces.{Each, map-back, pieces-at, length-flat}
 use Rattle.words_layout.proofs.RowWords.{Shaped, row-read}
 use Rattle.words_layout.proofs.Whole.{Fit, length-padded, wide-totals, totals-long, wide-rows}
+
+-- the parts of a table's words that are lent
+pub kinds-part : (s : List ℕ) (m : ℕ) → m ≡ objectsIn s → take (kindsAt + m - kindsAt) (drop kindsAt s) ≡ tableOf s .header .kinds
+unfolding tableOf
+kinds-part s m e = let q : kindsAt + m - kindsAt ≡ objectsIn s = omega arith in rw q refl
+
+pub clock-part : (s : List ℕ) (n : ℕ) → n ≡ sizeIn s → take (clockAt + n - clockAt) (drop clockAt s) ≡ tableOf s .clock
+unfolding tableOf
+clock-part s n e = let q : clockAt + n - clockAt ≡ sizeIn s = omega arith in rw q refl
 
 -- a total that 64 bits hold
 abbrev pub InRange : ℤ → Type 0

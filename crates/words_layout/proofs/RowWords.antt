@@ -52,16 +52,17 @@ high-of h l b = omega arith
 pub low-of : (h l : ℕ) → l < wordLimit → (h * wordLimit + l) % wordLimit ≡ l
 low-of h l b = omega arith
 
-zero-at : (n : ℕ) → _≡_ {A = ℕ} (getD (replicate n 0) 0 0) 0
-zero-at zero = refl
-zero-at (suc n) = refl
+pub zeros-at : (n i : ℕ) → _≡_ {A = ℕ} (getD (replicate n 0) i 0) 0
+zeros-at zero i = refl
+zeros-at (suc n) zero = refl
+zeros-at (suc n) (suc i) = zeros-at n i
 
 -- with its seven words named
 write-parts : (n o h l c e s k : ℕ) (v : List ℕ) → length v ≡ n → l < wordLimit → e ≤ 1 → k ≡ getD v s 0 → (e ≡ 0 → (s ≡ 0) × (v ≡ replicate n 0))
     → rowWords n (rowOf (o ∷ h ∷ l ∷ c ∷ e ∷ s ∷ k ∷ v)) ≡ o ∷ h ∷ l ∷ c ∷ e ∷ s ∷ k ∷ v
 unfolding numberOf
 write-parts n o h l c zero s k v w b f q z =
-    let m : n - 0 ≡ n = omega arith in rw (high-of h l b, low-of h l b, q, (z refl) .1, (z refl) .0, m, zero-at n) refl
+    let m : n - 0 ≡ n = omega arith in rw (high-of h l b, low-of h l b, q, (z refl) .1, (z refl) .0, m, zeros-at n 0) refl
 write-parts n o h l c (suc zero) s k v w b f q z = rw (high-of h l b, low-of h l b, padded-all n v w, q) refl
 write-parts n o h l c (suc (suc e)) s k v w b f q z = absurd (omega arith)
 

@@ -55,7 +55,7 @@ pub record Spelling (s : List ℕ) : Type 0 where
   pub rows : Each (Spelt (sizeIn s)) (rowsIn s)
   pub unused : take (capacityIn s * (7 + sizeIn s) - countIn s * (7 + sizeIn s)) (drop (rowsAt (sizeIn s) + countIn s * (7 + sizeIn s)) s) ≡ replicate (capacityIn s * (7 + sizeIn s) - countIn s * (7 + sizeIn s)) 0
 
-rows-kept : (n : ℕ) (l : List (List ℕ)) → Each (Spelt n) l → Each (λ (ws : List ℕ). rowWords n (rowOf ws) ≡ ws) l
+pub rows-kept : (n : ℕ) (l : List (List ℕ)) → Each (Spelt n) l → Each (λ (ws : List ℕ). rowWords n (rowOf ws) ≡ ws) l
 rows-kept n [] h = tt
 rows-kept n (ws ∷ l) h = (row-written n ws (h .0), rows-kept n l (h .1))
 

@@ -60,7 +60,7 @@ zeros-drop m zero t h = let e : m - 0 ≡ m = omega arith in rw e refl
 zeros-drop zero (suc w) t h = absurd (omega arith)
 zeros-drop (suc m) (suc w) t h = let e : suc m - suc w ≡ m - w = omega arith in rw e (zeros-drop m w t (omega arith))
 
-zeros-join : (a b : ℕ) (t : List ℕ) → replicate a 0 ++ (replicate b 0 ++ t) ≡ replicate (a + b) 0 ++ t
+pub zeros-join : (a b : ℕ) (t : List ℕ) → replicate a 0 ++ (replicate b 0 ++ t) ≡ replicate (a + b) 0 ++ t
 zeros-join a b t = sym (append-assoc (replicate a 0) (replicate b 0) t) ∙ rw (replicate-append-replicate {A = ℕ} a b 0) refl
 
 -- zeros up to n, and from there up to m

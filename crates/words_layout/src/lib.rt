@@ -38,6 +38,9 @@ pub const HIGH_AT: usize = 1;
 
 pub const LOW_AT: usize = 2;
 
+// The high word of every value today: a value is one word.
+pub const NO_HIGH: u32 = 0;
+
 pub const CODE_AT: usize = 3;
 
 pub const UNSETTLED_AT: usize = 4;

@@ -31,8 +31,8 @@ pub copy-done : (s t d : List ℕ) (to j w : ℕ) → t ≡ paste s to d j → j
 copy-done s t d to j w inv h k = let e : w ≡ j = omega arith in rw e inv
 
 -- a turn of a write
-pub put-turn : (s t new : List ℕ) (at j : ℕ) → at + length new ≤ length s → j < length new → t ≡ paste s at new j → set t (at + j) (getD new j 0) ≡ paste s at new (j + 1)
-put-turn s t new at j h k inv = rw (inv, add-one) (paste-suc s at new j 0 (omega arith) k)
+pub put-turn : (s t new : List ℕ) (at j r : ℕ) → at + length new ≤ length s → j < length new → r ≡ getD new j 0 → t ≡ paste s at new j → set t (at + j) r ≡ paste s at new (j + 1)
+put-turn s t new at j r h k e inv = rw (e, inv, add-one) (paste-suc s at new j 0 (omega arith) k)
 
 -- a run of zeros, one longer
 zeros-more : (k : ℕ) (r : List ℕ) → replicate k 0 ++ (0 ∷ r) ≡ replicate (suc k) 0 ++ r

@@ -17,6 +17,9 @@ pub struct Number(pub u32);
 // A count of rows or of steps over them, which is never a place or a number.
 pub struct RowCount(pub u32);
 
+// An operation's value: an amount, a member of a set or what a register holds; one word today.
+pub struct Value(pub u32);
+
 // How one vector lies to another: exactly one of the four holds.
 pub enum Relation {
     Before,

@@ -7,7 +7,7 @@ advance-clock-requires : tie.Need-advance-clock-requires
 advance-clock-requires c κs = (search arrived-opened, search needs, search arrived-below)
 
 arrive-total-requires : tie.Need-arrive-total-requires
-arrive-total-requires c κs = (search advanced-opened, search advanced-declared, search needs)
+arrive-total-requires c κs = (search advanced-opened, search advanced-declared)
 
 returns : tie.Need-returns
 returns c = search arrived

@@ -33,8 +33,8 @@ shared-slice-read-t14 c = search low-within
 add-t13 : tie.Need-add-t13
 add-t13 c = search sum-fits
 
-add-t17 : tie.Need-add-t17
-add-t17 c = search next-fits
+add-t18 : tie.Need-add-t18
+add-t18 c = search next-fits
 
 returns : tie.Need-returns
 returns c = search walked
@@ -58,5 +58,5 @@ next-value-spec =
     mul-t9
     shared-slice-read-t14
     add-t13
-    add-t17
+    add-t18
     returns)

@@ -5,7 +5,7 @@ use Rattle.question_scan.proofs.value_shown.Statement.{statement}
 use Rattle.question_scan.proofs.value_shown.Tie as tie
 
 abbrev Inv-loop : tie.InvT-loop
-Inv-loop rows width object value at₀ more₀ at more = Seeking rows width more₀ object value at more
+Inv-loop rows width object value at₀ more₀ at more = Seeking rows width more₀ object (value .0) at more
 
 abbrev μ-loop : tie.MeasureT-loop
 μ-loop rows width object value at₀ more₀ at more = more

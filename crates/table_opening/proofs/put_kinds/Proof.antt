@@ -2,8 +2,7 @@ use mathlib.Core.Path.{_≡_, refl}
 use Prim.Native.Nat.{_-_, _≤_}
 use lib.ListN.{length}
 use lib.Seq.{paste, paste-zero}
-use Rattle.words_moves.proofs.Moving.{copy-done}
-use Rattle.table_opening.proofs.Laying.{put-turn}
+use Rattle.words_moves.proofs.Moving.{put-turn, copy-done}
 use borrow.Author.Needs.{needs}
 use Rattle.table_opening.proofs.put_kinds.Statement.{statement}
 use Rattle.table_opening.proofs.put_kinds.Tie as tie

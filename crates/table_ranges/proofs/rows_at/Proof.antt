@@ -1,4 +1,4 @@
--- `table_ranges::rows_at` meets its contract: the square of at most 16 fits.
+-- `table_ranges::rows_at` meets its contract: the square of a group size fits.
 use Rattle.table_ranges.proofs.Heading.{square-fits, rows-place-fits, rows-place}
 use borrow.Author.Needs.{needs}
 use Rattle.table_ranges.proofs.rows_at.Statement.{statement}

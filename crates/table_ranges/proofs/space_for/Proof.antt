@@ -1,4 +1,4 @@
--- `table_ranges::space_for` meets its contract: the area of the most rows fits.
+-- `table_ranges::space_for` meets its contract: the area of the rows fits.
 use Rattle.table_ranges.proofs.Heading.{area-fits, space-fits, space-most, space-is}
 use native.Mathlib.Omega.{arith}
 use borrow.Author.Needs.{needs}
