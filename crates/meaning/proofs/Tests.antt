@@ -10,7 +10,6 @@ use borrow.Author.Tests.{leb-true, le-leb}
 use lib.Dec.{leb}
 use lib.ListN.{getD, length}
 use Rattle.meaning.specs.Tests.{any, every, everyAt, those, allHold, between}
-
 -- Nothing of the tables of lines is used here: these two have them checked before every law, so that a wrong rule or number is refused at a line
 -- of them first.
 use Rattle.meaning.specs.Papers.{papers}

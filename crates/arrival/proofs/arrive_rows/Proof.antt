@@ -6,9 +6,6 @@ use Rattle.arrival.proofs.arrive_rows.Tie as tie
 put-arrival-requires : tie.Need-put-arrival-requires
 put-arrival-requires c κs = (search row-fits, search dropped-opened, search needs)
 
-add-more : tie.Need-add-more
-add-more c = search left-fits
-
 returns : tie.Need-returns
 returns c = (search row-count, search row-put)
 
@@ -22,7 +19,7 @@ arrive-rows-spec =
     (λ c κs. search needs)
     (λ c κs. search needs)
     put-arrival-requires
-    add-more
+    (λ c. search left-fits)
     (λ c. search needs)
     returns
     (λ c. search needs)

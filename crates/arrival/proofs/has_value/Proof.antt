@@ -13,12 +13,6 @@ abbrev μ-loop : tie.MeasureT-loop
 loop-holds : tie.Need-loop-holds Inv-loop μ-loop
 loop-holds c = search looking-start
 
-part-same-value-end : tie.Need-part-same-value-end Inv-loop μ-loop
-part-same-value-end c = search row-room
-
-same-value-requires : tie.Need-same-value-requires Inv-loop μ-loop
-same-value-requires c κs = search (row-wide, row-room)
-
 returns : tie.Need-returns Inv-loop μ-loop
 returns c = search looking-found
 
@@ -40,8 +34,8 @@ has-value-spec =
     (λ c. search needs)
     (λ c. search needs)
     (λ c. search needs)
-    part-same-value-end
-    same-value-requires
+    (λ c. search row-room)
+    (λ c κs. search (row-wide, row-room))
     returns
     (λ c. search needs)
     loop-again

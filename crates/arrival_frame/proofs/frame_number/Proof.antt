@@ -7,9 +7,6 @@ use Rattle.arrival_frame.proofs.frame_number.Tie as tie
 returns : tie.Need-returns
 returns c = search number-early
 
-has-room-requires : tie.Need-has-room-requires
-has-room-requires c κs = (search opened, search needs)
-
 returns-2 : tie.Need-returns-2
 returns-2 c = search number-none
 
@@ -26,6 +23,6 @@ frame-number-spec =
     (λ c κs. search needs)
     returns
     (λ c κs. search needs)
-    has-room-requires
+    (λ c κs. (search opened, search needs))
     returns-2
     returns-3)

@@ -7,9 +7,6 @@ use Rattle.arrival_frame.proofs.take_frame.Tie as tie
 write-last-requires : tie.Need-write-last-requires
 write-last-requires c κs = (search opened, search (sender-below, needs), search needs)
 
-arrive-requires : tie.Need-arrive-requires
-arrive-requires c κs = search frame-arrives
-
 returns : tie.Need-returns
 returns c = search frame-taken
 
@@ -22,6 +19,6 @@ take-frame-spec =
     (λ c. search needs)
     (λ c κs. search needs)
     write-last-requires
-    arrive-requires
+    (λ c κs. search frame-arrives)
     (λ c. search needs)
     returns)

@@ -7,12 +7,6 @@ use Rattle.arrival_local.proofs.issue_number.Tie as tie
 returns : tie.Need-returns
 returns c = search number-early
 
-next-vector-requires : tie.Need-next-vector-requires
-next-vector-requires c κs = (search needs, search rises-early)
-
-has-room-requires : tie.Need-has-room-requires
-has-room-requires c κs = (search opened, search vector-long)
-
 returns-2 : tie.Need-returns-2
 returns-2 c = search number-none
 
@@ -30,10 +24,10 @@ issue-number-spec =
     (λ c κs. search needs)
     returns
     (λ c κs. search needs)
-    next-vector-requires
+    (λ c κs. (search needs, search rises-early))
     (λ c. search needs)
     (λ c. search needs)
     (λ c. search needs)
-    has-room-requires
+    (λ c κs. (search opened, search vector-long))
     returns-2
     returns-3)

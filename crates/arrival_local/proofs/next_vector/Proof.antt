@@ -3,9 +3,6 @@ use borrow.Author.Needs.{needs}
 use Rattle.arrival_local.proofs.next_vector.Statement.{statement}
 use Rattle.arrival_local.proofs.next_vector.Tie as tie
 
-advance-requires : tie.Need-advance-requires
-advance-requires c κs = (search needs, search next-below)
-
 returns : tie.Need-returns
 returns c = search next-made
 
@@ -23,5 +20,5 @@ next-vector-spec =
     (λ c. search needs)
     (λ c κs. search needs)
     (λ c. search needs)
-    advance-requires
+    (λ c κs. (search needs, search next-below))
     returns)

@@ -4,9 +4,6 @@ use borrow.Author.Needs.{needs}
 use Rattle.arrival_local.proofs.take_local.Statement.{statement}
 use Rattle.arrival_local.proofs.take_local.Tie as tie
 
-next-vector-requires : tie.Need-next-vector-requires
-next-vector-requires c κs = (search needs, search rises-accepted)
-
 arrive-requires : tie.Need-arrive-requires
 arrive-requires c κs = local-arrives _ (c .before .before .before .before .before .before .before .before .before .before .before .before .pre .0) _ (c .before .before .before .before .before .before .before .before .before .wide .ensures .0) _ (c .before .before .before .next-vector .ensures) _ _ _ _ refl _ (search (c .before .before .before .before .before .arrival-of .ensures)) (c .before .before .before .before .before .before .before .before .before .before .before .before .pre .1)
 
@@ -22,7 +19,7 @@ take-local-spec =
     (λ c. search needs)
     (λ c. search needs)
     (λ c κs. search needs)
-    next-vector-requires
+    (λ c κs. (search needs, search rises-accepted))
     (λ c. search needs)
     (λ c. search needs)
     (λ c. search needs)

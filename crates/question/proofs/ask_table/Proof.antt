@@ -6,9 +6,6 @@ use Rattle.question.proofs.ask_table.Tie as tie
 returns : tie.Need-returns
 returns c = search refused-replied
 
-total-of-requires : tie.Need-total-of-requires
-total-of-requires c κs = (search needs, search object-declared)
-
 returns-2 : tie.Need-returns-2
 returns-2 c = search total-replied
 
@@ -36,7 +33,7 @@ ask-table-spec =
     (λ c. search needs)
     (λ c κs. search needs)
     returns
-    total-of-requires
+    (λ c κs. (search needs, search object-declared))
     returns-2
     (λ c κs. search needs)
     returns-3

@@ -3,9 +3,6 @@ use Rattle.question_list.proofs.Scanned.{part-room, count-by-rows}
 use Rattle.question_list.proofs.count_in.Statement.{statement}
 use Rattle.question_list.proofs.count_in.Tie as tie
 
-count-shown-requires : tie.Need-count-shown-requires
-count-shown-requires c κs = (search part-room, search needs)
-
 returns : tie.Need-returns
 returns c = search count-by-rows
 
@@ -20,5 +17,5 @@ count-in-spec =
     (λ c. search needs)
     (λ c. search needs)
     (λ c. search needs)
-    count-shown-requires
+    (λ c κs. (search part-room, search needs))
     returns)

@@ -3,9 +3,6 @@ use Rattle.question_list.proofs.Scanned.{part-room, in-by-rows}
 use Rattle.question_list.proofs.is_in.Statement.{statement}
 use Rattle.question_list.proofs.is_in.Tie as tie
 
-value-shown-requires : tie.Need-value-shown-requires
-value-shown-requires c κs = (search part-room, search needs)
-
 returns : tie.Need-returns
 returns c = search in-by-rows
 
@@ -20,5 +17,5 @@ is-in-spec =
     (λ c. search needs)
     (λ c. search needs)
     (λ c. search needs)
-    value-shown-requires
+    (λ c κs. (search part-room, search needs))
     returns)

@@ -12,12 +12,6 @@ abbrev μ-loop : tie.MeasureT-loop
 loop-holds : tie.Need-loop-holds Inv-loop μ-loop
 loop-holds c = search writing-start
 
-next-value-requires : tie.Need-next-value-requires Inv-loop μ-loop
-next-value-requires c κs = (search needs, search one-left)
-
-slice-write-out : tie.Need-slice-write-out Inv-loop μ-loop
-slice-write-out c = search to-within
-
 loop-again : tie.Need-loop-again Inv-loop μ-loop
 loop-again c = search writing-next
 
@@ -31,9 +25,9 @@ list-into-spec =
     Inv-loop
     μ-loop
     loop-holds
-    next-value-requires
+    (λ c κs. (search needs, search one-left))
     (λ c. search needs)
-    slice-write-out
+    (λ c. search to-within)
     (λ c. search needs)
     (λ c. search needs)
     (λ c. search needs)

@@ -14,23 +14,8 @@ abbrev μ-loop : tie.MeasureT-loop
 loop-holds : tie.Need-loop-holds Inv-loop μ-loop
 loop-holds c = search passing-start
 
-next-shown-requires : tie.Need-next-shown-requires Inv-loop μ-loop
-next-shown-requires c κs = (search counting-room, search needs)
-
 returns : tie.Need-returns Inv-loop μ-loop
 returns c = search counting-none
-
-add-step : tie.Need-add-step Inv-loop μ-loop
-add-step c = search (step-small, arith)
-
-mul-at : tie.Need-mul-at Inv-loop μ-loop
-mul-at c = search (step-fits, counting-room)
-
-add-at : tie.Need-add-at Inv-loop μ-loop
-add-at c = search (behind-fits, counting-room)
-
-sub-more : tie.Need-sub-more Inv-loop μ-loop
-sub-more c = search step-most
 
 loop-again : tie.Need-loop-again Inv-loop μ-loop
 loop-again c = search counting-next
@@ -45,13 +30,13 @@ count-shown-spec =
     Inv-loop
     μ-loop
     loop-holds
-    next-shown-requires
+    (λ c κs. (search counting-room, search needs))
     returns
-    add-step
+    (λ c. search (step-small, arith))
     (λ c κs. search needs)
-    mul-at
-    add-at
-    sub-more
+    (λ c. search (step-fits, counting-room))
+    (λ c. search (behind-fits, counting-room))
+    (λ c. search step-most)
     (λ c. search needs)
     (λ c. search needs)
     loop-again

@@ -20,9 +20,6 @@ shows-at-requires c κs = (search passing-room, search needs, search needs, sear
 returns : tie.Need-returns Inv-loop μ-loop
 returns c = search passing-found
 
-add-place : tie.Need-add-place Inv-loop μ-loop
-add-place c = search (next-fits, arith)
-
 loop-again : tie.Need-loop-again Inv-loop μ-loop
 loop-again c = search passing-next
 
@@ -38,7 +35,7 @@ next-shown-spec =
     loop-holds
     shows-at-requires
     returns
-    add-place
+    (λ c. search (next-fits, arith))
     (λ c. search needs)
     (λ c. search needs)
     (λ c. search needs)

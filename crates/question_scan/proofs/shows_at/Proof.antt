@@ -13,12 +13,6 @@ returns-2 c = search no-add
 returns-3 : tie.Need-returns-3
 returns-3 c = search last-shows
 
-add-differ : tie.Need-add-differ
-add-differ c = search (key-fits, arith)
-
-differ-requires : tie.Need-differ-requires
-differ-requires c κs = (search needs, search next-room)
-
 returns-4 : tie.Need-returns-4
 returns-4 c = search by-key
 
@@ -34,6 +28,6 @@ shows-at-spec =
     (λ c. search needs)
     returns-2
     returns-3
-    add-differ
-    differ-requires
+    (λ c. search (key-fits, arith))
+    (λ c κs. (search needs, search next-room))
     returns-4)

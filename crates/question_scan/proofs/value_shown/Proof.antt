@@ -19,9 +19,6 @@ shows-value-at-requires c κs = (search seeking-room, search needs, search needs
 returns : tie.Need-returns Inv-loop μ-loop
 returns c = search value-found
 
-add-at : tie.Need-add-at Inv-loop μ-loop
-add-at c = search (seek-fits, arith)
-
 loop-again : tie.Need-loop-again Inv-loop μ-loop
 loop-again c = search seeking-next
 
@@ -37,7 +34,7 @@ value-shown-spec =
     loop-holds
     shows-value-at-requires
     returns
-    add-at
+    (λ c. search (seek-fits, arith))
     (λ c. search needs)
     (λ c. search needs)
     loop-again

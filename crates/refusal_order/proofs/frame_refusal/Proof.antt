@@ -5,9 +5,6 @@ use borrow.Author.Needs.{needs}
 use Rattle.refusal_order.proofs.frame_refusal.Statement.{statement}
 use Rattle.refusal_order.proofs.frame_refusal.Tie as tie
 
-keeps-rising-requires : tie.Need-keeps-rising-requires
-keeps-rising-requires c κs = (search rising-room, search needs)
-
 returns : tie.Need-returns
 returns c = search frame-stranger
 
@@ -39,7 +36,7 @@ frame-refusal-spec =
     (λ c κs. search needs)
     (λ c κs. search needs)
     (λ c κs. search needs)
-    keeps-rising-requires
+    (λ c κs. (search rising-room, search needs))
     returns
     returns-2
     returns-3

@@ -17,12 +17,6 @@ loop-holds c = search lessening-start
 loop-again : tie.Need-loop-again Inv-loop μ-loop
 loop-again c = search lessening-skip
 
-part-lessen-end : tie.Need-part-lessen-end Inv-loop μ-loop
-part-lessen-end c = search part-room
-
-lessen-requires : tie.Need-lessen-requires Inv-loop μ-loop
-lessen-requires c κs = search part-long
-
 loop-again-2 : tie.Need-loop-again-2 Inv-loop μ-loop
 loop-again-2 c = search lessening-by
 
@@ -44,8 +38,8 @@ lessen-by-others-spec =
     (λ c. search needs)
     (λ c. search needs)
     (λ c. search needs)
-    part-lessen-end
-    lessen-requires
+    (λ c. search part-room)
+    (λ c κs. search part-long)
     (λ c. search needs)
     loop-again-2
     (λ c. search needs)

@@ -3,9 +3,6 @@ use borrow.Author.Needs.{needs}
 use Rattle.settling.proofs.low_of.Statement.{statement}
 use Rattle.settling.proofs.low_of.Tie as tie
 
-lessen-by-others-requires : tie.Need-lessen-by-others-requires
-lessen-by-others-requires c κs = search low-asks
-
 returns : tie.Need-returns
 returns c = search low-is
 
@@ -18,5 +15,5 @@ low-of-spec =
     (λ c. search needs)
     (λ c. search needs)
     (λ c. search needs)
-    lessen-by-others-requires
+    (λ c κs. search low-asks)
     returns)

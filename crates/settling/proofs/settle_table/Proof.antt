@@ -3,9 +3,6 @@ use borrow.Author.Needs.{needs}
 use Rattle.settling.proofs.settle_table.Statement.{statement}
 use Rattle.settling.proofs.settle_table.Tie as tie
 
-settle-opened-requires : tie.Need-settle-opened-requires
-settle-opened-requires c κs = (search needs, search head-opened)
-
 pub settle-table-spec : {M : Type 1} → statement M
 settle-table-spec =
     tie.close
@@ -13,6 +10,6 @@ settle-table-spec =
     (λ c. search needs)
     (λ c κs. search needs)
     (λ c. search needs)
-    settle-opened-requires
+    (λ c κs. (search needs, search head-opened))
     (λ c. search needs)
     (λ c. search needs))

@@ -14,14 +14,8 @@ abbrev μ-loop : tie.MeasureT-loop
 loop-holds : tie.Need-loop-holds Inv-loop μ-loop
 loop-holds c = search loop-start
 
-resume-at-requires : tie.Need-resume-at-requires Inv-loop μ-loop
-resume-at-requires c κs = search resume-fits
-
 step-for-requires : tie.Need-step-for-requires Inv-loop μ-loop
 step-for-requires c κs = ((search needs, search needs, search kept-below, search row-within, search rest-within), search rows-held)
-
-copy-down-requires : tie.Need-copy-down-requires Inv-loop μ-loop
-copy-down-requires c κs = (search needs, search copy-within)
 
 loop-again : tie.Need-loop-again Inv-loop μ-loop
 loop-again c = loop-keep _ _ _ _ _ _ _ _ _ _ _ _ _ (c .before .before .before .before .before .before .before .before .before .before .before .before .loop .inv) (search needs) _ (c .before .before .before .before .before .before .step-for .ensures) _ (c .before .before .before .before .before .before .before .before .resume-at .ensures) _ (c .before .before .copy-down .ensures) (c .before .before .before .before .enum-told .given .1)
@@ -29,29 +23,14 @@ loop-again c = loop-keep _ _ _ _ _ _ _ _ _ _ _ _ _ (c .before .before .before .b
 settle-row-requires : tie.Need-settle-row-requires Inv-loop μ-loop
 settle-row-requires c κs = (search row-within, search needs, search here-spelt)
 
-copy-down-requires-2 : tie.Need-copy-down-requires-2 Inv-loop μ-loop
-copy-down-requires-2 c κs = (search needs, search copy-again)
-
 loop-again-2 : tie.Need-loop-again-2 Inv-loop μ-loop
 loop-again-2 c = loop-settle _ _ _ _ _ _ _ _ _ _ _ _ _ (c .before .before .before .before .before .before .before .before .before .before .before .before .before .before .before .before .loop .inv) (search needs) _ (c .before .before .before .before .before .before .before .before .before .before .step-for .ensures) (search needs) _ (c .before .before .before .before .before .before .before .before .before .before .before .before .resume-at .ensures) _ _ (c .before .before .before .before .before .before .settle-row .ensures) (c .before .before .copy-down2 .ensures) (c .before .before .before .before .before .before .before .before .enum-told2 .given .1)
 
 loop-again-3 : tie.Need-loop-again-3 Inv-loop μ-loop
 loop-again-3 c = search loop-drop
 
-sub-more-2 : tie.Need-sub-more-2 Inv-loop μ-loop
-sub-more-2 c = search two-more
-
-resume-at-requires-2 : tie.Need-resume-at-requires-2 Inv-loop μ-loop
-resume-at-requires-2 c κs = search resume-fits-again
-
 loop-again-4 : tie.Need-loop-again-4 Inv-loop μ-loop
 loop-again-4 c = loop-both _ _ _ _ _ _ _ _ _ _ _ _ _ (c .before .before .before .before .before .before .before .before .before .loop .inv) (search needs) _ (c .before .before .before .step-for .ensures) (search needs) _ _ (c .before .before .before .before .before .resume-at .ensures) (c .resume-at2 .ensures) (c .before .enum-told4 .given .1)
-
-mul-close-up : tie.Need-mul-close-up Inv-loop μ-loop
-mul-close-up c = search run-fits
-
-close-up-requires : tie.Need-close-up-requires Inv-loop μ-loop
-close-up-requires c κs = (search needs, search run-within)
 
 returns : tie.Need-returns Inv-loop μ-loop
 returns c = let stop = ⊎-elim (λ w. inr (w .left)) (λ w. inl (w .2 .taken)) (c .before .before .before .before .before .loop-test .came) in
@@ -65,18 +44,18 @@ pass-rows-spec =
     μ-loop
     (λ c. search needs)
     loop-holds
-    resume-at-requires
+    (λ c κs. search resume-fits)
     (λ c. search needs)
     step-for-requires
     (λ c. search needs)
-    copy-down-requires
+    (λ c κs. (search needs, search copy-within))
     (λ c. search needs)
     (λ c. search needs)
     (λ c. search needs)
     loop-again
     (λ c. search needs)
     settle-row-requires
-    copy-down-requires-2
+    (λ c κs. (search needs, search copy-again))
     (λ c. search needs)
     (λ c. search needs)
     (λ c. search needs)
@@ -88,13 +67,13 @@ pass-rows-spec =
     loop-again-3
     (λ c. search needs)
     (λ c. search needs)
-    sub-more-2
-    resume-at-requires-2
+    (λ c. search two-more)
+    (λ c κs. search resume-fits-again)
     (λ c. search needs)
     loop-again-4
     (λ c κs. search needs)
-    mul-close-up
-    close-up-requires
+    (λ c. search run-fits)
+    (λ c κs. (search needs, search run-within))
     (λ c. search needs)
     (λ c. search needs)
     returns)

@@ -6,21 +6,6 @@ use Rattle.settling_step.proofs.before.Tie as tie
 returns : tie.Need-returns
 returns c = search before-nothing
 
-mul-to : tie.Need-mul-to
-mul-to c = search last-fits
-
-sub-compared-2 : tie.Need-sub-compared-2
-sub-compared-2 c = search last-start
-
-mul-compared-2 : tie.Need-mul-compared-2
-mul-compared-2 c = search last-start-fits
-
-part-compared-end-2 : tie.Need-part-compared-end-2
-part-compared-end-2 c = search last-end
-
-compared-requires : tie.Need-compared-requires
-compared-requires c κs = (search needs, search last-long)
-
 returns-2 : tie.Need-returns-2
 returns-2 c = search before-last
 
@@ -32,15 +17,15 @@ before-spec =
     returns
     (λ c. search needs)
     (λ c κs. search needs)
-    mul-to
+    (λ c. search last-fits)
     (λ c. search needs)
     (λ c. search needs)
     (λ c. search needs)
     (λ c. search needs)
-    sub-compared-2
-    mul-compared-2
+    (λ c. search last-start)
+    (λ c. search last-start-fits)
     (λ c. search needs)
     (λ c. search needs)
-    part-compared-end-2
-    compared-requires
+    (λ c. search last-end)
+    (λ c κs. (search needs, search last-long))
     returns-2)

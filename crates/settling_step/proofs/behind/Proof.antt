@@ -6,9 +6,6 @@ use Rattle.settling_step.proofs.behind.Tie as tie
 returns : tie.Need-returns
 returns c = search behind-nothing
 
-part-compared-end-2 : tie.Need-part-compared-end-2
-part-compared-end-2 c = search next-room
-
 returns-2 : tie.Need-returns-2
 returns-2 c = search behind-next
 
@@ -27,6 +24,6 @@ behind-spec =
     (λ c. search needs)
     (λ c. search needs)
     (λ c. search needs)
-    part-compared-end-2
+    (λ c. search next-room)
     (λ c κs. search needs)
     returns-2)

@@ -3,12 +3,6 @@ use borrow.Author.Needs.{needs}
 use Rattle.table_change.proofs.advance_clock.Statement.{statement}
 use Rattle.table_change.proofs.advance_clock.Tie as tie
 
-part-advance-end : tie.Need-part-advance-end
-part-advance-end c = search clock-end
-
-advance-requires : tie.Need-advance-requires
-advance-requires c κs = (search clock-long, search clock-below)
-
 returns : tie.Need-returns
 returns c = search advanced
 
@@ -19,7 +13,7 @@ advance-clock-spec =
     (λ c. search needs)
     (λ c. search needs)
     (λ c. search needs)
-    part-advance-end
-    advance-requires
+    (λ c. search clock-end)
+    (λ c κs. (search clock-long, search clock-below))
     (λ c. search needs)
     returns)

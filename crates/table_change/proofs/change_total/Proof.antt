@@ -3,9 +3,6 @@ use borrow.Author.Needs.{needs}
 use Rattle.table_change.proofs.change_total.Statement.{statement}
 use Rattle.table_change.proofs.change_total.Tie as tie
 
-slice-write-s-2 : tie.Need-slice-write-s-2
-slice-write-s-2 c = search total-room-set
-
 returns : tie.Need-returns
 returns c = search total-put
 
@@ -25,6 +22,6 @@ change-total-spec =
     (λ c. search needs)
     (λ c. search needs)
     (λ c. search needs)
-    slice-write-s-2
+    (λ c. search total-room-set)
     (λ c. search needs)
     returns)

@@ -13,12 +13,6 @@ abbrev μ-loop : tie.MeasureT-loop
 loop-holds : tie.Need-loop-holds Inv-loop μ-loop
 loop-holds c = search counting-start
 
-part-row-goes-end : tie.Need-part-row-goes-end Inv-loop μ-loop
-part-row-goes-end c = search row-room
-
-row-goes-requires : tie.Need-row-goes-requires Inv-loop μ-loop
-row-goes-requires c κs = search (row-wide, row-room)
-
 loop-again : tie.Need-loop-again Inv-loop μ-loop
 loop-again c = search counting-skip
 
@@ -40,8 +34,8 @@ count-left-spec =
     (λ c. search needs)
     (λ c. search needs)
     (λ c. search needs)
-    part-row-goes-end
-    row-goes-requires
+    (λ c. search row-room)
+    (λ c κs. search (row-wide, row-room))
     (λ c. search needs)
     loop-again
     (λ c. search needs)

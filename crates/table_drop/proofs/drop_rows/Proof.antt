@@ -13,23 +13,11 @@ abbrev μ-loop : tie.MeasureT-loop
 loop-holds : tie.Need-loop-holds Inv-loop μ-loop
 loop-holds c = search dropping-start
 
-part-row-goes-end : tie.Need-part-row-goes-end Inv-loop μ-loop
-part-row-goes-end c = search row-room
-
-row-goes-requires : tie.Need-row-goes-requires Inv-loop μ-loop
-row-goes-requires c κs = search (row-wide, row-room)
-
 loop-again : tie.Need-loop-again Inv-loop μ-loop
 loop-again c = search dropping-skip
 
-copy-down-requires : tie.Need-copy-down-requires Inv-loop μ-loop
-copy-down-requires c κs = (search needs, search row-room)
-
 loop-again-2 : tie.Need-loop-again-2 Inv-loop μ-loop
 loop-again-2 c = search dropping-keep
-
-clear-requires : tie.Need-clear-requires Inv-loop μ-loop
-clear-requires c κs = (search needs, search done-room)
 
 returns : tie.Need-returns Inv-loop μ-loop
 returns c = (search dropping-count, search dropping-done)
@@ -46,15 +34,15 @@ drop-rows-spec =
     (λ c. search needs)
     (λ c. search needs)
     (λ c. search needs)
-    part-row-goes-end
-    row-goes-requires
+    (λ c. search row-room)
+    (λ c κs. search (row-wide, row-room))
     (λ c. search needs)
     loop-again
-    copy-down-requires
+    (λ c κs. (search needs, search row-room))
     (λ c. search needs)
     (λ c. search needs)
     (λ c. search needs)
     loop-again-2
-    clear-requires
+    (λ c κs. (search needs, search done-room))
     (λ c. search needs)
     returns)

@@ -13,17 +13,8 @@ abbrev μ-loop : tie.MeasureT-loop
 loop-holds : tie.Need-loop-holds Inv-loop μ-loop
 loop-holds c = search finding-start
 
-part-lower-end : tie.Need-part-lower-end Inv-loop μ-loop
-part-lower-end c = search finding-key
-
-lower-requires : tie.Need-lower-requires Inv-loop μ-loop
-lower-requires c κs = search (key-long, finding-key)
-
 returns : tie.Need-returns Inv-loop μ-loop
 returns c = search finding-found
-
-add-at : tie.Need-add-at Inv-loop μ-loop
-add-at c = search (next-fits, arith)
 
 loop-again : tie.Need-loop-again Inv-loop μ-loop
 loop-again c = search finding-past
@@ -42,10 +33,10 @@ find-place-spec =
     (λ c. search needs)
     (λ c. search needs)
     (λ c. search needs)
-    part-lower-end
-    lower-requires
+    (λ c. search finding-key)
+    (λ c κs. search (key-long, finding-key))
     returns
-    add-at
+    (λ c. search (next-fits, arith))
     (λ c. search needs)
     (λ c. search needs)
     loop-again

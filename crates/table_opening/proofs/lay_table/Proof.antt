@@ -3,12 +3,6 @@ use borrow.Author.Needs.{needs}
 use Rattle.table_opening.proofs.lay_table.Statement.{statement}
 use Rattle.table_opening.proofs.lay_table.Tie as tie
 
-space-for-requires : tie.Need-space-for-requires
-space-for-requires c κs = (search few, search small)
-
-cast-objects : tie.Need-cast-objects
-cast-objects c = search objects-fit
-
 lay-requires : tie.Need-lay-requires
 lay-requires c κs = (search needs, search kinds-fit, search needed-room)
 
@@ -20,8 +14,8 @@ lay-table-spec =
     tie.close
     (tie.spec
     (λ c κs. search needs)
-    space-for-requires
-    cast-objects
+    (λ c κs. (search few, search small))
+    (λ c. search objects-fit)
     (λ c. search needs)
     lay-requires
     (λ c. search needs)

@@ -4,14 +4,8 @@ use borrow.Author.Needs.{needs}
 use Rattle.table_ranges.proofs.rows_at.Statement.{statement}
 use Rattle.table_ranges.proofs.rows_at.Tie as tie
 
-mul-result : tie.Need-mul-result
-mul-result c = search square-fits
-
-add-result-2 : tie.Need-add-result-2
-add-result-2 c = search rows-place-fits
-
 returns : tie.Need-returns
 returns c = (search needs, search rows-place)
 
 pub rows-at-spec : {M : Type 1} → statement M
-rows-at-spec = tie.close (tie.spec (λ c. search needs) mul-result add-result-2 returns)
+rows-at-spec = tie.close (tie.spec (λ c. search needs) (λ c. search square-fits) (λ c. search rows-place-fits) returns)

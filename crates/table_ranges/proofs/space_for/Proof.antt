@@ -5,14 +5,8 @@ use borrow.Author.Needs.{needs}
 use Rattle.table_ranges.proofs.space_for.Statement.{statement}
 use Rattle.table_ranges.proofs.space_for.Tie as tie
 
-mul-result : tie.Need-mul-result
-mul-result c = search (area-fits, arith)
-
-add-result-2 : tie.Need-add-result-2
-add-result-2 c = search (space-fits, arith)
-
 returns : tie.Need-returns
 returns c = (search space-is, search space-most)
 
 pub space-for-spec : {M : Type 1} → statement M
-space-for-spec = tie.close (tie.spec (λ c κs. search needs) (λ c κs. search needs) (λ c. search needs) mul-result add-result-2 returns)
+space-for-spec = tie.close (tie.spec (λ c κs. search needs) (λ c κs. search needs) (λ c. search needs) (λ c. search (area-fits, arith)) (λ c. search (space-fits, arith)) returns)

@@ -7,9 +7,6 @@ use Rattle.table_rules.proofs.is_table.Tie as tie
 returns : tie.Need-returns
 returns c = search held-short
 
-parts-ok-requires : tie.Need-parts-ok-requires
-parts-ok-requires c κs = search told-headed
-
 returns-2 : tie.Need-returns-2
 returns-2 c = search held-parts
 
@@ -17,4 +14,4 @@ returns-3 : tie.Need-returns-3
 returns-3 c = search held-head
 
 pub is-table-spec : {M : Type 1} → statement M
-is-table-spec = tie.close (tie.spec returns (λ c κs. search needs) parts-ok-requires returns-2 returns-3)
+is-table-spec = tie.close (tie.spec returns (λ c κs. search needs) (λ c κs. search told-headed) returns-2 returns-3)

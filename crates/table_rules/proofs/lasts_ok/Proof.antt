@@ -4,9 +4,6 @@ use borrow.Author.Needs.{needs}
 use Rattle.table_rules.proofs.lasts_ok.Statement.{statement}
 use Rattle.table_rules.proofs.lasts_ok.Tie as tie
 
-each-last-ok-requires : tie.Need-each-last-ok-requires
-each-last-ok-requires c κs = search lasts-room
-
 returns : tie.Need-returns
 returns c = search lasts-told
 
@@ -25,5 +22,5 @@ lasts-ok-spec =
     (λ c. search needs)
     (λ c. search needs)
     (λ c. search needs)
-    each-last-ok-requires
+    (λ c κs. search lasts-room)
     returns)

@@ -4,15 +4,6 @@ use borrow.Author.Needs.{needs}
 use Rattle.table_rules.proofs.rows_kept.Statement.{statement}
 use Rattle.table_rules.proofs.rows_kept.Tie as tie
 
-sub-rows-ok : tie.Need-sub-rows-ok
-sub-rows-ok c = search rows-start
-
-part-rows-ok-start : tie.Need-part-rows-ok-start
-part-rows-ok-start c = search rows-start
-
-rows-ok-requires : tie.Need-rows-ok-requires
-rows-ok-requires c κs = (search rows-room, search row-wide)
-
 returns : tie.Need-returns
 returns c = search rows-told
 
@@ -28,8 +19,8 @@ rows-kept-spec =
     (λ c. search needs)
     (λ c κs. search needs)
     (λ c. search needs)
-    sub-rows-ok
-    part-rows-ok-start
+    (λ c. search rows-start)
+    (λ c. search rows-start)
     (λ c. search needs)
     (λ c. search needs)
     (λ c. search needs)
@@ -39,5 +30,5 @@ rows-kept-spec =
     (λ c. search needs)
     (λ c. search needs)
     (λ c. search needs)
-    rows-ok-requires
+    (λ c κs. (search rows-room, search row-wide))
     returns)

@@ -5,15 +5,6 @@ use borrow.Author.Needs.{needs}
 use Rattle.table_rules.proofs.unused_ok.Statement.{statement}
 use Rattle.table_rules.proofs.unused_ok.Tie as tie
 
-sub-all-zero : tie.Need-sub-all-zero
-sub-all-zero c = search (unused-start, arith)
-
-part-all-zero-start : tie.Need-part-all-zero-start
-part-all-zero-start c = search (unused-start, arith)
-
-part-all-zero-end : tie.Need-part-all-zero-end
-part-all-zero-end c = search unused-end
-
 returns : tie.Need-returns
 returns c = search unused-told
 
@@ -28,8 +19,8 @@ unused-ok-spec =
     (λ c. search needs)
     (λ c κs. search needs)
     (λ c. search needs)
-    sub-all-zero
-    part-all-zero-start
-    part-all-zero-end
+    (λ c. search (unused-start, arith))
+    (λ c. search (unused-start, arith))
+    (λ c. search unused-end)
     (λ c κs. search needs)
     returns)

@@ -20,21 +20,6 @@ abbrev μ-loop : tie.MeasureT-loop
 loop-holds : tie.Need-loop-holds Inv-loop μ-loop
 loop-holds c = search pass-start
 
-add-end : tie.Need-add-end Inv-loop μ-loop
-add-end c = search (end-fits, arith)
-
-mul-last-ok : tie.Need-mul-last-ok Inv-loop μ-loop
-mul-last-ok c = search (start-fits, arith)
-
-part-last-ok-end : tie.Need-part-last-ok-end Inv-loop μ-loop
-part-last-ok-end c = search piece-room
-
-cast-station : tie.Need-cast-station Inv-loop μ-loop
-cast-station c = search station-fits
-
-last-ok-requires : tie.Need-last-ok-requires Inv-loop μ-loop
-last-ok-requires c κs = search piece-long
-
 loop-again : tie.Need-loop-again Inv-loop μ-loop
 loop-again c = ⊎-elim (λ w. search (piece-fails, not-true)) (λ w. search (piece-holds, not-false)) (c .if1 .came)
 
@@ -48,13 +33,13 @@ each-last-ok-spec =
     Inv-loop
     μ-loop
     loop-holds
-    add-end
-    cast-station
-    mul-last-ok
+    (λ c. search (end-fits, arith))
+    (λ c. search station-fits)
+    (λ c. search (start-fits, arith))
     (λ c. search needs)
     (λ c. search needs)
-    part-last-ok-end
-    last-ok-requires
+    (λ c. search piece-room)
+    (λ c κs. search piece-long)
     (λ c. search needs)
     (λ c. search needs)
     loop-again

@@ -20,18 +20,6 @@ abbrev μ-loop : tie.MeasureT-loop
 loop-holds : tie.Need-loop-holds Inv-loop μ-loop
 loop-holds c = search pass-start
 
-add-end : tie.Need-add-end Inv-loop μ-loop
-add-end c = search (end-fits, arith)
-
-mul-code-of : tie.Need-mul-code-of Inv-loop μ-loop
-mul-code-of c = search (start-fits, arith)
-
-part-code-of-end : tie.Need-part-code-of-end Inv-loop μ-loop
-part-code-of-end c = search piece-room
-
-code-of-requires : tie.Need-code-of-requires Inv-loop μ-loop
-code-of-requires c κs = search piece-long
-
 loop-again : tie.Need-loop-again Inv-loop μ-loop
 loop-again c = ⊎-elim (λ w. search (total-fails, not-true)) (λ w. search (total-holds, not-false)) (c .if1 .came)
 
@@ -45,14 +33,14 @@ each-total-ok-spec =
     Inv-loop
     μ-loop
     loop-holds
-    add-end
+    (λ c. search (end-fits, arith))
     (λ c. search needs)
     (λ c. search needs)
-    mul-code-of
+    (λ c. search (start-fits, arith))
     (λ c. search needs)
     (λ c. search needs)
-    part-code-of-end
-    code-of-requires
+    (λ c. search piece-room)
+    (λ c κs. search piece-long)
     (λ c κs. search needs)
     (λ c. search needs)
     (λ c. search needs)

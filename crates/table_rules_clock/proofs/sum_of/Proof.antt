@@ -16,9 +16,6 @@ abbrev μ-loop : tie.MeasureT-loop
 loop-holds : tie.Need-loop-holds Inv-loop μ-loop
 loop-holds c = search sum-start
 
-add-sum : tie.Need-add-sum Inv-loop μ-loop
-add-sum c = search (sum-fits, arith)
-
 loop-again : tie.Need-loop-again Inv-loop μ-loop
 loop-again c = search (sum-more, arith)
 
@@ -35,7 +32,7 @@ sum-of-spec =
     (λ c. search needs)
     (λ c. search needs)
     (λ c κs. search needs)
-    add-sum
+    (λ c. search (sum-fits, arith))
     (λ c. search needs)
     (λ c. search needs)
     loop-again

@@ -19,18 +19,6 @@ abbrev μ-loop : tie.MeasureT-loop
 loop-holds : tie.Need-loop-holds Inv-loop μ-loop
 loop-holds c = search pass-start
 
-add-end : tie.Need-add-end Inv-loop μ-loop
-add-end c = search (end-fits, arith)
-
-mul-row-ok : tie.Need-mul-row-ok Inv-loop μ-loop
-mul-row-ok c = search (start-fits, arith)
-
-part-row-ok-end : tie.Need-part-row-ok-end Inv-loop μ-loop
-part-row-ok-end c = search piece-room
-
-row-ok-requires : tie.Need-row-ok-requires Inv-loop μ-loop
-row-ok-requires c κs = search piece-long
-
 loop-again : tie.Need-loop-again Inv-loop μ-loop
 loop-again c = ⊎-elim (λ w. search (piece-fails, not-true)) (λ w. search (piece-holds, not-false)) (c .if2 .came)
 
@@ -44,12 +32,12 @@ each-ok-spec =
     Inv-loop
     μ-loop
     loop-holds
-    add-end
-    mul-row-ok
+    (λ c. search (end-fits, arith))
+    (λ c. search (start-fits, arith))
     (λ c. search needs)
     (λ c. search needs)
-    part-row-ok-end
-    row-ok-requires
+    (λ c. search piece-room)
+    (λ c κs. search piece-long)
     (λ c. search needs)
     (λ c. search needs)
     loop-again

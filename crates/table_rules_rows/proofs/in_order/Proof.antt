@@ -17,27 +17,6 @@ abbrev μ-loop : tie.MeasureT-loop
 loop-holds : tie.Need-loop-holds Inv-loop μ-loop
 loop-holds c = search chain-start
 
-add-end : tie.Need-add-end Inv-loop μ-loop
-add-end c = search (key-fits, arith)
-
-add-next : tie.Need-add-next Inv-loop μ-loop
-add-next c = search (next-fits, arith)
-
-add-after : tie.Need-add-after Inv-loop μ-loop
-add-after c = search (next-key-fits, arith)
-
-part-may-follow-end : tie.Need-part-may-follow-end Inv-loop μ-loop
-part-may-follow-end c = search key-room
-
-mul-may-follow-2 : tie.Need-mul-may-follow-2 Inv-loop μ-loop
-mul-may-follow-2 c = search (next-scaled, arith)
-
-part-may-follow-end-2 : tie.Need-part-may-follow-end-2 Inv-loop μ-loop
-part-may-follow-end-2 c = search next-key-room
-
-may-follow-requires : tie.Need-may-follow-requires Inv-loop μ-loop
-may-follow-requires c κs = (search key-long, search next-key-long)
-
 loop-again : tie.Need-loop-again Inv-loop μ-loop
 loop-again c = ⊎-elim (λ w. search (chain-fails, not-true)) (λ w. search (chain-holds, not-false)) (c .if1 .came)
 
@@ -51,18 +30,18 @@ in-order-spec =
     Inv-loop
     μ-loop
     loop-holds
-    add-end
-    add-next
-    add-after
+    (λ c. search (key-fits, arith))
+    (λ c. search (next-fits, arith))
+    (λ c. search (next-key-fits, arith))
     (λ c. search needs)
     (λ c. search needs)
     (λ c. search needs)
-    part-may-follow-end
-    mul-may-follow-2
+    (λ c. search key-room)
+    (λ c. search (next-scaled, arith))
     (λ c. search needs)
     (λ c. search needs)
-    part-may-follow-end-2
-    may-follow-requires
+    (λ c. search next-key-room)
+    (λ c κs. (search key-long, search next-key-long))
     (λ c. search needs)
     (λ c. search needs)
     loop-again
