@@ -23,6 +23,9 @@ use Rattle.calls.proofs.Answering.{answer-fits}
 use Rattle.form_judge.specs.declared.Judged.{Judged}
 use Rattle.form_judge.specs.declared.Judged.the-variants as judged
 use Rattle.form_judge.specs.Judging.{printing, resavedBy, resavedLines}
+use Rattle.program_output.specs.declared.Source.{Source}
+use Rattle.program_output.specs.declared.Source.the-variants as source
+use Rattle.program_output.specs.Gathering.{lineAt, linesOf}
 use Rattle.call_question.specs.AnswerBytes.{longestAnswerBytes}
 
 -- every output line has so many bytes at most
@@ -63,17 +66,8 @@ module _ (lines : List (List ℕ)) (fit : Fit lines) (k : ℕ) (out : List ℕ) 
   short : length (take (n - 0) y) ≤ longestAnswer
   short = let z : n - 0 ≡ n = omega arith in omega (arith, both .1, ap (λ (m : ℕ). length (take m y)) z ∙ length-take-le n y (both .0))
 
-abbrev told : Answered × (List ℕ × List ℕ) → Answered × List ℕ
+abbrev pub told : Answered × (List ℕ × List ℕ) → Answered × List ℕ
 told (r, (x, y)) = (r, y)
-
-module _ (line : List ℕ) (k : ℕ) (words out : List ℕ) (r : Answered) (n : ℕ) (x y : List ℕ) (e : (r, (x, y)) ≡ answeredBy line k words out) (f : r ≡ Line n) where
-  pub line-within : n ≤ length y
-  unfolding answeredBy
-  line-within = both (linesFor line words) (lines-fit line words) k out r n y (ap told e) f .0
-
-  pub line-short : length (take (n - 0) y) ≤ longestAnswer
-  unfolding answeredBy
-  line-short = short (linesFor line words) (lines-fit line words) k out r n y (ap told e) f
 
 resaved-fit : (known : Judged) (words : List ℕ) → Fit (resavedLines known words)
 unfolding resavedLines
@@ -81,11 +75,23 @@ resaved-fit judged.Open words = tt
 resaved-fit judged.Closed words = lines-fit printing words
 resaved-fit (judged.Refused number) words = (refusal-short number, tt)
 
-module _ (known : Judged) (k : ℕ) (words out : List ℕ) (r : Answered) (n : ℕ) (x y : List ℕ) (e : (r, (x, y)) ≡ resavedBy known k words out) (f : r ≡ Line n) where
-  pub printed-line-within : n ≤ length y
-  unfolding resavedBy
-  printed-line-within = both (resavedLines known words) (resaved-fit known words) k out r n y (ap told e) f .0
+all-fit : (of : Source) (line words : List ℕ) → Fit (linesOf of line words)
+unfolding linesOf
+all-fit source.Session line words = lines-fit line words
+all-fit (source.Form known) line words = resaved-fit known words
 
-  pub printed-line-short : length (take (n - 0) y) ≤ longestAnswer
-  unfolding resavedBy
-  printed-line-short = short (resavedLines known words) (resaved-fit known words) k out r n y (ap told e) f
+-- one of the output lines, whatever they are of
+at-printed : (of : Source) (line : List ℕ) (k : ℕ) (words out : List ℕ) → told (lineAt of line k words out) ≡ printedAt (linesOf of line words) k out
+unfolding lineAt linesOf answeredBy resavedBy
+at-printed source.Session line k words out = refl
+at-printed (source.Form known) line k words out = refl
+
+module _ (of : Source) (line : List ℕ) (k : ℕ) (words out : List ℕ) (r : Answered) (n : ℕ) (x y : List ℕ) (e : (r, (x, y)) ≡ lineAt of line k words out) (f : r ≡ Line n) where
+  printed : (r, y) ≡ printedAt (linesOf of line words) k out
+  printed = ap told e ∙ at-printed of line k words out
+
+  pub line-within : n ≤ length y
+  line-within = both (linesOf of line words) (all-fit of line words) k out r n y printed f .0
+
+  pub line-short : length (take (n - 0) y) ≤ longestAnswer
+  line-short = short (linesOf of line words) (all-fit of line words) k out r n y printed f

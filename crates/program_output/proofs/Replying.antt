@@ -1,4 +1,4 @@
--- The loops that ask for every output line: those from the k-th on are still to be gathered.
+-- The loop that asks for every output line: those from the k-th on are still to be gathered.
 use Prim.Native.Nat.{ℕ, zero, suc, _+_, _-_, _≤_, _<_}
 use mathlib.Core.Path.{_≡_, refl, sym, ap, ap₂, _∙_}
 use mathlib.Core.Bool.{Bool, true, false, _&&_}
@@ -19,9 +19,12 @@ use Rattle.calls.specs.Answers.{answerOf, answeredBy, linesFor, printedAt, spac
 use Rattle.calls.proofs.Answering.{printing-stays, printing-type}
 use Rattle.calls.proofs.Counting.{lines-count}
 use Rattle.form_judge.specs.declared.Judged.{Judged}
-use Rattle.form_judge.specs.Judging.{resavedBy, resavedLines}
+use Rattle.form_judge.specs.Judging.{resavedBy}
 use Rattle.form_judge.proofs.Resaving.{resaved-count}
-use Rattle.program_output.specs.Gathering.{Gathered, gathered, HasRoom, pushed, replied, reprinted}
+use Rattle.program_output.specs.Gathering.{Gathered, gathered, HasRoom, lineAt, linesOf, pushed, put, replied, reprinted}
+use Rattle.program_output.specs.declared.Source.{Source}
+use Rattle.program_output.specs.declared.Source.the-variants as source
+use Rattle.program_output.proofs.Fitting.{told}
 use Rattle.program_output.proofs.Gathering.{all-gathered, no-more, one-more}
 use Rattle.call_answer.specs.Answering.{frameRoom}
 
@@ -59,39 +62,73 @@ module _ (line words₀ : List ℕ) where
         let f : (r, (x, y)) ≡ answeredBy line (suc i) after out = e ∙ ap₂ (λ (n : ℕ) (v : List ℕ). answeredBy line n v out) z w in
         (ap (λ (q : Answered × (List ℕ × List ℕ)). (q .0, q .1 .1)) f ∙ later-lines i out ∙ ap (λ (n : ℕ). printedAt lines n out) (sym z), ap (λ (q : Answered × (List ℕ × List ℕ)). q .1 .0) f ∙ ap (λ (b : Bool). pick b (answerOf line after .1) after) (ne-eqb (suc i) 0 (λ (z : suc i ≡ 0). omega arith)))
 
--- the space is as it was until the first line is asked for
-abbrev Space : ℕ → List ℕ → List ℕ → List ℕ → Type 0
-Space zero line words₀ words = words ≡ words₀
-Space (suc k) line words₀ words = words ≡ answerOf line words₀ .1
+-- the ways of one output line
+module _ (of : Source) (line : List ℕ) (k : ℕ) (words out : List ℕ) (got : Answered × (List ℕ × List ℕ)) where
+  pub session-line : of ≡ source.Session → got ≡ answeredBy line k words out → got ≡ lineAt of line k words out
+  unfolding lineAt
+  session-line e f = f ∙ ap (λ (q : Source). lineAt q line k words out) (sym e)
 
-space-later : (k : ℕ) (line words₀ words : List ℕ) → (k ≡ 0 → ⊥) → Space k line words₀ words → words ≡ answerOf line words₀ .1
-space-later zero line words₀ words h s = absurd (h refl)
-space-later (suc k) line words₀ words h s = s
+  pub form-line : (known : Judged) → of ≡ source.Form known → got ≡ resavedBy known k words out → got ≡ lineAt of line k words out
+  unfolding lineAt
+  form-line known e f = f ∙ ap (λ (q : Source). lineAt q line k words out) (sym e)
 
-space-told : (k : ℕ) (line words₀ words out : List ℕ) (r : Answered) (x y : List ℕ) → (r, (x, y)) ≡ answeredBy line k words out → Space k line words₀ words → ((r, y) ≡ printedAt (linesFor line words₀) k out) × (x ≡ answerOf line words₀ .1)
-space-told zero line words₀ words out r x y e s = first-told line words₀ 0 words out r x y e refl s
-space-told (suc k) line words₀ words out r x y e s = later-told line words₀ (suc k) words out r x y e k refl s
+-- the table space once the first line is asked for
+abbrev spaceOf : Source → List ℕ → List ℕ → List ℕ
+spaceOf source.Session line words₀ = answerOf line words₀ .1
+spaceOf (source.Form known) line words₀ = words₀
 
-pub record Replying (line words₀ : List ℕ) (count₀ : ℕ) (pending₀ words : List ℕ) (count : ℕ) (pending : List ℕ) (k : ℕ) : Type 0 where
-  pub left : gathered (linesFor line words₀) (count₀, pending₀) ≡ gathered (drop k (linesFor line words₀)) (count, pending)
-  pub space-is : Space k line words₀ words
+-- it is as it was until then
+abbrev Space : ℕ → Source → List ℕ → List ℕ → List ℕ → Type 0
+Space zero of line words₀ words = words ≡ words₀
+Space (suc k) of line words₀ words = words ≡ spaceOf of line words₀
+
+space-later : (k : ℕ) (of : Source) (line words₀ words : List ℕ) → (k ≡ 0 → ⊥) → Space k of line words₀ words → words ≡ spaceOf of line words₀
+space-later zero of line words₀ words h s = absurd (h refl)
+space-later (suc k) of line words₀ words h s = s
+
+form-stays : (k : ℕ) (known : Judged) (line words₀ words : List ℕ) → Space k (source.Form known) line words₀ words → words ≡ words₀
+form-stays zero known line words₀ words s = s
+form-stays (suc k) known line words₀ words s = s
+
+space-told : (of : Source) (k : ℕ) (line words₀ words out : List ℕ) (r : Answered) (x y : List ℕ) → (r, (x, y)) ≡ lineAt of line k words out → Space k of line words₀ words → ((r, y) ≡ printedAt (linesOf of line words₀) k out) × (x ≡ spaceOf of line words₀)
+unfolding lineAt linesOf resavedBy
+space-told source.Session zero line words₀ words out r x y e s = first-told line words₀ 0 words out r x y e refl s
+space-told source.Session (suc k) line words₀ words out r x y e s = later-told line words₀ (suc k) words out r x y e k refl s
+space-told (source.Form known) k line words₀ words out r x y e s =
+    let f : (r, (x, y)) ≡ resavedBy known k words₀ out = e ∙ ap (λ (w : List ℕ). resavedBy known k w out) (form-stays k known line words₀ words s) in
+    (ap told f, ap (λ (q : Answered × (List ℕ × List ℕ)). q .1 .0) f)
+
+all-count : (of : Source) (line words : List ℕ) → length (linesOf of line words) ≤ mostFormLines
+unfolding linesOf
+all-count source.Session line words = lines-count line words
+all-count (source.Form known) line words = resaved-count known words
+
+-- what is held once all is gathered
+all-put : (of : Source) (line words₀ : List ℕ) (waiting₀ : Gathered) → (spaceOf of line words₀, gathered (linesOf of line words₀) waiting₀) ≡ put of line (words₀, waiting₀)
+unfolding linesOf put replied reprinted
+all-put source.Session line words₀ waiting₀ = refl
+all-put (source.Form known) line words₀ waiting₀ = refl
+
+pub record Replying (of : Source) (line words₀ : List ℕ) (count₀ : ℕ) (pending₀ words : List ℕ) (count : ℕ) (pending : List ℕ) (k : ℕ) : Type 0 where
+  pub left : gathered (linesOf of line words₀) (count₀, pending₀) ≡ gathered (drop k (linesOf of line words₀)) (count, pending)
+  pub space-is : Space k of line words₀ words
   pub place : k ≤ mostFormLines
   pub has-room : HasRoom count pending
   pub words-long : length words ≡ length words₀
   pub pending-long : length pending ≡ length pending₀
 
-module _ (line words₀ : List ℕ) (count₀ : ℕ) (pending₀ : List ℕ) where
-  pub replying-start : HasRoom count₀ pending₀ → Replying line words₀ count₀ pending₀ words₀ count₀ pending₀ 0
+module _ (of : Source) (line words₀ : List ℕ) (count₀ : ℕ) (pending₀ : List ℕ) where
+  pub replying-start : HasRoom count₀ pending₀ → Replying of line words₀ count₀ pending₀ words₀ count₀ pending₀ 0
   replying-start h = record { left = refl; space-is = refl; place = omega arith; has-room = h; words-long = refl; pending-long = refl }
 
-  module _ (words : List ℕ) (count : ℕ) (pending : List ℕ) (k : ℕ) (R : Replying line words₀ count₀ pending₀ words count pending k) where
-    module _ (out : List ℕ) (r : Answered) (x y : List ℕ) (e : (r, (x, y)) ≡ answeredBy line k words out) where
-      asked : ((r, y) ≡ printedAt (linesFor line words₀) k out) × (x ≡ answerOf line words₀ .1)
-      asked = space-told k line words₀ words out r x y e (R .space-is)
+  module _ (words : List ℕ) (count : ℕ) (pending : List ℕ) (k : ℕ) (R : Replying of line words₀ count₀ pending₀ words count pending k) where
+    module _ (out : List ℕ) (r : Answered) (x y : List ℕ) (e : (r, (x, y)) ≡ lineAt of line k words out) where
+      asked : ((r, y) ≡ printedAt (linesOf of line words₀) k out) × (x ≡ spaceOf of line words₀)
+      asked = space-told of k line words₀ words out r x y e (R .space-is)
 
-      pub replying-turn : k < mostFormLines → (n : ℕ) → r ≡ Line n → (m : ℕ) (p : List ℕ) → (m, p) ≡ pushed (take (n - 0) y) (count, pending) → HasRoom m p → length x ≡ length words → length p ≡ length pending → Replying line words₀ count₀ pending₀ x m p (k + 1)
+      pub replying-turn : k < mostFormLines → (n : ℕ) → r ≡ Line n → (m : ℕ) (p : List ℕ) → (m, p) ≡ pushed (take (n - 0) y) (count, pending) → HasRoom m p → length x ≡ length words → length p ≡ length pending → Replying of line words₀ count₀ pending₀ x m p (k + 1)
       replying-turn h n f m p g w v u = record {
-        left = one-more (linesFor line words₀) (count₀, pending₀) k count pending (R .left) out r y (asked .0) n m p f g;
+        left = one-more (linesOf of line words₀) (count₀, pending₀) k count pending (R .left) out r y (asked .0) n m p f g;
         space-is = rw (add-one k) (asked .1);
         place = omega arith;
         has-room = w;
@@ -99,53 +136,13 @@ module _ (line words₀ : List ℕ) (count₀ : ℕ) (pending₀ : List ℕ) whe
         pending-long = u ∙ R .pending-long;
       }
 
-      pub replying-ended : r ≡ End → (x, (count, pending)) ≡ replied line (words₀, (count₀, pending₀))
-      unfolding replied
-      replying-ended f = ap₂ (λ (w : List ℕ) (g : Gathered). (w, g)) (asked .1) (sym (no-more (linesFor line words₀) (count₀, pending₀) k count pending (R .left) out r y (asked .0) f))
+      pub replying-ended : r ≡ End → (x, (count, pending)) ≡ put of line (words₀, (count₀, pending₀))
+      replying-ended f =
+          ap₂ (λ (w : List ℕ) (g : Gathered). (w, g)) (asked .1) (sym (no-more (linesOf of line words₀) (count₀, pending₀) k count pending (R .left) out r y (asked .0) f))
+          ∙ all-put of line words₀ (count₀, pending₀)
 
-    pub replying-done : mostFormLines ≤ k → (words, (count, pending)) ≡ replied line (words₀, (count₀, pending₀))
-    unfolding replied
+    pub replying-done : mostFormLines ≤ k → (words, (count, pending)) ≡ put of line (words₀, (count₀, pending₀))
     replying-done h =
-        let many = lines-count line words₀ in
-        ap₂ (λ (w : List ℕ) (g : Gathered). (w, g)) (space-later k line words₀ words (λ z. omega arith) (R .space-is)) (sym (all-gathered (linesFor line words₀) (count₀, pending₀) k count pending (R .left) (omega (arith, many))))
-
--- the same for a form that is at its end
-pub record Printing (known : Judged) (words₀ : List ℕ) (count₀ : ℕ) (pending₀ words : List ℕ) (count : ℕ) (pending : List ℕ) (k : ℕ) : Type 0 where
-  pub left : gathered (resavedLines known words₀) (count₀, pending₀) ≡ gathered (drop k (resavedLines known words₀)) (count, pending)
-  pub space-is : words ≡ words₀
-  pub place : k ≤ mostFormLines
-  pub has-room : HasRoom count pending
-  pub words-long : length words ≡ length words₀
-  pub pending-long : length pending ≡ length pending₀
-
-module _ (known : Judged) (words₀ : List ℕ) (count₀ : ℕ) (pending₀ : List ℕ) where
-  pub printing-start : HasRoom count₀ pending₀ → Printing known words₀ count₀ pending₀ words₀ count₀ pending₀ 0
-  printing-start h = record { left = refl; space-is = refl; place = omega arith; has-room = h; words-long = refl; pending-long = refl }
-
-  module _ (words : List ℕ) (count : ℕ) (pending : List ℕ) (k : ℕ) (P : Printing known words₀ count₀ pending₀ words count pending k) where
-    module _ (out : List ℕ) (r : Answered) (x y : List ℕ) (e : (r, (x, y)) ≡ resavedBy known k words out) where
-      printed : ((r, y) ≡ printedAt (resavedLines known words₀) k out) × (x ≡ words₀)
-      unfolding resavedBy
-      printed =
-          let f : (r, (x, y)) ≡ resavedBy known k words₀ out = e ∙ ap (λ (w : List ℕ). resavedBy known k w out) (P .space-is) in
-          (ap (λ (q : Answered × (List ℕ × List ℕ)). (q .0, q .1 .1)) f, ap (λ (q : Answered × (List ℕ × List ℕ)). q .1 .0) f)
-
-      pub printing-turn : k < mostFormLines → (n : ℕ) → r ≡ Line n → (m : ℕ) (p : List ℕ) → (m, p) ≡ pushed (take (n - 0) y) (count, pending) → HasRoom m p → length x ≡ length words → length p ≡ length pending → Printing known words₀ count₀ pending₀ x m p (k + 1)
-      printing-turn h n f m p g w v u = record {
-        left = one-more (resavedLines known words₀) (count₀, pending₀) k count pending (P .left) out r y (printed .0) n m p f g;
-        space-is = printed .1;
-        place = omega arith;
-        has-room = w;
-        words-long = v ∙ P .words-long;
-        pending-long = u ∙ P .pending-long;
-      }
-
-      pub printing-ended : r ≡ End → (x, (count, pending)) ≡ reprinted known (words₀, (count₀, pending₀))
-      unfolding reprinted
-      printing-ended f = ap₂ (λ (w : List ℕ) (g : Gathered). (w, g)) (printed .1) (sym (no-more (resavedLines known words₀) (count₀, pending₀) k count pending (P .left) out r y (printed .0) f))
-
-    pub printing-done : mostFormLines ≤ k → (words, (count, pending)) ≡ reprinted known (words₀, (count₀, pending₀))
-    unfolding reprinted
-    printing-done h =
-        let many = resaved-count known words₀ in
-        ap₂ (λ (w : List ℕ) (g : Gathered). (w, g)) (P .space-is) (sym (all-gathered (resavedLines known words₀) (count₀, pending₀) k count pending (P .left) (omega (arith, many))))
+        let many = all-count of line words₀ in
+        ap₂ (λ (w : List ℕ) (g : Gathered). (w, g)) (space-later k of line words₀ words (λ z. omega arith) (R .space-is)) (sym (all-gathered (linesOf of line words₀) (count₀, pending₀) k count pending (R .left) (omega (arith, many))))
+        ∙ all-put of line words₀ (count₀, pending₀)

@@ -5,9 +5,12 @@ use lib.Dec.{leb}
 use lib.ListN.{drop, length, take}
 use Rattle.line_hex.specs.Choice.{pick}
 use Rattle.line_hex.specs.Hex.{hexLine}
-use Rattle.calls.specs.Answers.{answerOf, linesFor, longestAnswer}
+use Rattle.calls.specs.declared.Answered.{Answered}
+use Rattle.calls.specs.Answers.{answeredBy, answerOf, linesFor, longestAnswer}
 use Rattle.form_judge.specs.declared.Judged.{Judged}
-use Rattle.form_judge.specs.Judging.{resavedLines}
+use Rattle.form_judge.specs.Judging.{resavedBy, resavedLines}
+use Rattle.program_output.specs.declared.Source.{Source}
+use Rattle.program_output.specs.declared.Source.the-variants as source
 
 -- The characters of the space in which a program's output waits.
 abbrev pub pendingRoom : ℕ
@@ -46,3 +49,16 @@ replied line (words, waiting) = (answerOf line words .1, gathered (linesFor line
 -- What is held after the end of a form in the second program.
 unfoldable pub reprinted : Judged → Held → Held
 reprinted known (words, waiting) = (words, gathered (resavedLines known words) waiting)
+
+-- Either, by what the lines are of: its output lines, the k-th of them or the end, and what is held after them.
+unfoldable pub linesOf : Source → List ℕ → List ℕ → List (List ℕ)
+linesOf source.Session line words = linesFor line words
+linesOf (source.Form known) line words = resavedLines known words
+
+unfoldable pub lineAt : Source → List ℕ → ℕ → List ℕ → List ℕ → Answered × (List ℕ × List ℕ)
+lineAt source.Session line k words out = answeredBy line k words out
+lineAt (source.Form known) line k words out = resavedBy known k words out
+
+unfoldable pub put : Source → List ℕ → Held → Held
+put source.Session line held = replied line held
+put (source.Form known) line held = reprinted known held

@@ -3,12 +3,12 @@ ghost use mathlib.Core.Path.{_≡_};
 ghost use Prim.Native.Nat.{_+_, _≤_};
 ghost use lib.ListN.{length};
 ghost use Rattle.calls.specs.Answers.{longestAnswer};
-ghost use Rattle.program_output.specs.Gathering.{HasRoom, joined, pushed, replied, reprinted};
+ghost use Rattle.program_output.specs.Gathering.{HasRoom, joined, lineAt, pushed, put};
 use calls::Answered;
 use form_judge::Judged;
 use libc::STDOUT_FILENO;
 
-// The characters of the longest line. Of a longer one so many are kept, which get what the whole line gets (law `line-answered` of `keeping`).
+// The characters of the longest line. Of a longer one so many are kept, which get what the whole line gets (law `line-answered` of `line_decode`).
 pub const LINE: usize = line_read::LINE_ROOM;
 
 // The characters of the output that waits to be written at once.
@@ -19,6 +19,12 @@ const MOST_LINES: usize = 2 + meaning::MOST_STATIONS - 1
     + meaning::MOST_OBJECTS
     + meaning::MOST_ROWS as usize
     + 1;
+
+// What lines are of: a session, in which each is answered at once, or a saved form, of which so much is known.
+pub enum Source {
+    Session,
+    Form(Judged),
+}
 
 // How many characters wait to be written, and whether the output still takes any.
 pub struct Waiting {
@@ -81,38 +87,34 @@ pub fn push(pending: &mut [u8], waiting: Waiting, text: &[u8]) -> Waiting
     }
 }
 
-// Every output line of the station program for a line.
-pub fn reply(space: &mut [u32], line: &[u8], pending: &mut [u8], waiting: Waiting) -> Waiting
-    requires { ⌜ HasRoom (waiting .count) (now pending) ⌝ }
-    ensures { λ r. ⌜ ((now (space .exit), (r .count, now (pending .exit)))
-        ≡ replied (now (line .entry)) (now (space .entry), (waiting .count, now (pending .entry))))
-        × HasRoom (r .count) (now (pending .exit)) ⌝ }
+// The k-th output line, from 0 on, or the end: for a line of a session, or for a form at its end, to which no line matters.
+fn output_line(
+    space: &mut [u32],
+    source: Source,
+    line: &[u8],
+    k: usize,
+    out: &mut [u8; calls::LONGEST_ANSWER],
+) -> Answered
+    ensures { λ r. ⌜ (r, (now (space .exit), now (out .exit)))
+        ≡ lineAt source (now (line .entry)) k (now (space .entry)) (now (out .entry)) ⌝ }
 {
-    let mut out = [0u8; calls::LONGEST_ANSWER];
-    let mut count = waiting.count;
-    let mut open = waiting.open;
-    let mut k = 0;
-    while k < MOST_LINES {
-        match calls::answer(space, line, k, &mut out) {
-            Answered::Line(n) => {
-                let after = push(pending, Waiting { count, open }, &out[0..n]);
-                count = after.count;
-                open = after.open;
-            }
-            Answered::End => {
-                return Waiting { count, open };
-            }
-        }
-        k += 1;
+    match source {
+        Source::Session => calls::answer(space, line, k, out),
+        Source::Form(known) => form_judge::resave(space, known, k, out),
     }
-    Waiting { count, open }
 }
 
-// Every output line of the second program for a form that is at its end.
-pub fn print(space: &mut [u32], known: Judged, pending: &mut [u8], waiting: Waiting) -> Waiting
+// Every output line for a line of a session, or for a form at its end.
+pub fn gather(
+    space: &mut [u32],
+    source: Source,
+    line: &[u8],
+    pending: &mut [u8],
+    waiting: Waiting,
+) -> Waiting
     requires { ⌜ HasRoom (waiting .count) (now pending) ⌝ }
     ensures { λ r. ⌜ ((now (space .exit), (r .count, now (pending .exit)))
-        ≡ reprinted known (now (space .entry), (waiting .count, now (pending .entry))))
+        ≡ put source (now (line .entry)) (now (space .entry), (waiting .count, now (pending .entry))))
         × HasRoom (r .count) (now (pending .exit)) ⌝ }
 {
     let mut out = [0u8; calls::LONGEST_ANSWER];
@@ -120,7 +122,7 @@ pub fn print(space: &mut [u32], known: Judged, pending: &mut [u8], waiting: Wait
     let mut open = waiting.open;
     let mut k = 0;
     while k < MOST_LINES {
-        match form_judge::resave(space, known, k, &mut out) {
+        match output_line(space, source, line, k, &mut out) {
             Answered::Line(n) => {
                 let after = push(pending, Waiting { count, open }, &out[0..n]);
                 count = after.count;

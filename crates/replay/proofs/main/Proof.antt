@@ -1,16 +1,16 @@
--- `replay::main` meets its contract. The loop keeps `Holding`: the spaces' lengths, and that what is kept is ready for the next file.
+-- `replay::main` meets its contract. The loop keeps `Holding`: the spaces' lengths, and that input may go on.
 use Prim.Native.Nat.{_-_}
-use Rattle.replay.proofs.Feeding.{Holding, holding-start, holding-turn}
+use Rattle.replay.proofs.Holding.{Holding, holding-start, holding-turn}
 use borrow.Author.Needs.{needs}
 use Rattle.replay.proofs.main.Statement.{statement}
 use Rattle.replay.proofs.main.Tie as tie
 
 abbrev Inv-loop : tie.InvT-loop
-Inv-loop space₀ line₀ pending₀ have₀ playing₀ waiting₀ files i₀ space line pending have playing waiting i =
-    Holding space line pending have (waiting .count)
+Inv-loop space₀ line₀ pending₀ have₀ part₀ files i₀ space line pending have part i =
+    Holding space line pending have (part .waiting .count)
 
 abbrev μ-loop : tie.MeasureT-loop
-μ-loop space₀ line₀ pending₀ have₀ playing₀ waiting₀ files i₀ space line pending have playing waiting i =
+μ-loop space₀ line₀ pending₀ have₀ part₀ files i₀ space line pending have part i =
     files - i
 
 loop-holds : tie.Need-loop-holds Inv-loop μ-loop
@@ -25,6 +25,7 @@ main-spec =
     (tie.spec
     Inv-loop
     μ-loop
+    (λ c κs. search needs)
     (λ c κs. search needs)
     loop-holds
     (λ c. search needs)

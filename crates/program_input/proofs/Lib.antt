@@ -1,0 +1,4 @@
+pub mod Along
+pub mod Feeding
+pub mod Lines
+pub mod Programs

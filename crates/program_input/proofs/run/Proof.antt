@@ -1,0 +1,25 @@
+-- `program_input::run` meets its contract.
+use Rattle.program_input.proofs.Feeding.{ready-start}
+use borrow.Author.Needs.{needs}
+use Rattle.program_input.proofs.run.Statement.{statement}
+use Rattle.program_input.proofs.run.Tie as tie
+
+read-requires : tie.Need-read-requires
+read-requires c κs = (search needs, search (ready-start, needs))
+
+pub run-spec : {M : Type 1} → statement M
+run-spec =
+    tie.close
+    (tie.spec
+    (λ c κs. search needs)
+    (λ c. search needs)
+    (λ c. search needs)
+    (λ c. search needs)
+    read-requires
+    (λ c. search needs)
+    (λ c. search needs)
+    (λ c. search needs)
+    (λ c κs. search needs)
+    (λ c. search needs)
+    (λ c κs. search needs)
+    (λ c. search needs))

@@ -1,0 +1,338 @@
+// Input cut into lines for every program: a byte joins the line that goes on, and a line that ends goes to the session or form that it is of.
+ghost use mathlib.Core.Bool.{_&&_};
+ghost use mathlib.Core.Path.{_≡_};
+ghost use Prim.Native.Nat.{_≤_};
+ghost use lib.ListN.{length, take};
+ghost use Rattle.words_layout.specs.Layout.{mostWords};
+ghost use Rattle.line_decode.specs.Feeding.{fed, heldFed, heldTaken, taken};
+ghost use Rattle.calls.specs.Answers.{longestAnswer};
+ghost use Rattle.program_output.specs.Gathering.{HasRoom};
+ghost use Rattle.program_input.specs.Lines.{begins, ended, isTitle, lastEnded, played, responded, turned};
+ghost use Rattle.program_input.specs.Reading.{AfterRead, Read, Ready, WholeLast, WholeResponded};
+use form_judge::Judged;
+use libc::STDIN_FILENO;
+use program_output::LINE;
+use program_output::PENDING;
+use program_output::Source;
+use program_output::Waiting;
+use words_layout::MOST_WORDS;
+
+// A title has these two ahead of it, and behind them this one where it starts a form.
+const DASH: u8 = b'-';
+
+const FORM: u8 = b'f';
+
+// The end of a form has no line of its own.
+const NO_LINE: [u8; 0] = [];
+
+// What lines are of, and the output that waits.
+pub struct Played {
+    pub source: Source,
+    pub waiting: Waiting,
+}
+
+// What is kept from one byte of input to the next: so many characters of a line, and what is played.
+pub struct Kept {
+    pub have: usize,
+    pub part: Played,
+}
+
+// Whether a line is the title of the next session or form. Only input of many has titles.
+fn is_title(titles: bool, line: &[u8]) -> bool
+    ensures { λ r. ⌜ r ≡ (titles && isTitle (now (line .entry))) ⌝ }
+{
+    if !titles {
+        return false;
+    }
+    if line.len() < 2 {
+        return false;
+    }
+    if line[0] != DASH {
+        return false;
+    }
+    line[1] == DASH
+}
+
+// What a title starts.
+fn begin(title: &[u8]) -> Source
+    ensures { λ r. ⌜ r ≡ begins (now (title .entry)) ⌝ }
+{
+    if title.len() < 3 {
+        return Source::Session;
+    }
+    if title[2] == FORM {
+        return Source::Form(Judged::Open);
+    }
+    Source::Session
+}
+
+// A session or form is at its end, and a form is printed.
+fn finish(space: &mut [u32], pending: &mut [u8], part: Played) -> Waiting
+    requires { ⌜ HasRoom (part .waiting .count) (now pending) ⌝ }
+    ensures { λ r. ⌜ ((now (space .exit), (r .count, now (pending .exit)))
+        ≡ ended (part .source, (now (space .entry), (part .waiting .count, now (pending .entry)))))
+        × HasRoom (r .count) (now (pending .exit)) ⌝ }
+{
+    let source = part.source;
+    let waiting = part.waiting;
+    match source {
+        Source::Session => waiting,
+        Source::Form(known) => {
+            let whole = form_judge::judge_end(space, known);
+            program_output::gather(space, Source::Form(whole), &NO_LINE, pending, waiting)
+        }
+    }
+}
+
+// A title, put out as it was kept: the next station begins with zeros.
+fn turn(space: &mut [u32], title: &[u8], pending: &mut [u8], part: Played) -> Played
+    requires { ⌜ HasRoom (part .waiting .count) (now pending) × (length (now title) ≤ longestAnswer) ⌝ }
+    ensures { λ r. ⌜ ((r .source, (now (space .exit), (r .waiting .count, now (pending .exit))))
+        ≡ turned (now (title .entry)) (part .source, (now (space .entry), (part .waiting .count, now (pending .entry)))))
+        × HasRoom (r .waiting .count) (now (pending .exit)) ⌝ }
+{
+    let last = finish(space, pending, part);
+    let after = program_output::push(pending, last, title);
+    let end = space.len();
+    words_moves::clear(space, 0, end);
+    let next = begin(title);
+    Played {
+        source: next,
+        waiting: after,
+    }
+}
+
+// A line of a session or form.
+fn play(space: &mut [u32], line: &[u8], pending: &mut [u8], part: Played) -> Played
+    requires { ⌜ HasRoom (part .waiting .count) (now pending) ⌝ }
+    ensures { λ r. ⌜ ((r .source, (now (space .exit), (r .waiting .count, now (pending .exit))))
+        ≡ played (now (line .entry)) (part .source, (now (space .entry), (part .waiting .count, now (pending .entry)))))
+        × HasRoom (r .waiting .count) (now (pending .exit)) ⌝ }
+{
+    let source = part.source;
+    let waiting = part.waiting;
+    match source {
+        Source::Session => {
+            let after = program_output::gather(space, Source::Session, line, pending, waiting);
+            Played {
+                source: Source::Session,
+                waiting: after,
+            }
+        }
+        Source::Form(known) => {
+            let after = form_judge::judge(space, line, known);
+            Played {
+                source: Source::Form(after),
+                waiting,
+            }
+        }
+    }
+}
+
+// A line, which may be a title.
+fn respond(titles: bool, space: &mut [u32], line: &[u8], pending: &mut [u8], part: Played) -> Played
+    requires { ⌜ HasRoom (part .waiting .count) (now pending) × (length (now line) ≤ longestAnswer) ⌝ }
+    ensures { λ r. ⌜ ((r .source, (now (space .exit), (r .waiting .count, now (pending .exit))))
+        ≡ responded titles (now (line .entry)) (part .source, (now (space .entry), (part .waiting .count, now (pending .entry)))))
+        × HasRoom (r .waiting .count) (now (pending .exit)) ⌝ }
+{
+    if is_title(titles, line) {
+        return turn(space, line, pending, part);
+    }
+    play(space, line, pending, part)
+}
+
+// One byte of input: it joins the line, and ends it if it is LF. No more is kept than the space holds.
+fn take(
+    titles: bool,
+    space: &mut [u32],
+    line: &mut [u8],
+    pending: &mut [u8],
+    kept: Kept,
+    b: u8,
+) -> Kept
+    requires { ⌜ Ready (kept .have) (kept .part .waiting .count) (now line) (now pending) ⌝ }
+    ensures { λ r. ⌜ ((r .have, now (line .exit)) ≡ taken (now (line .entry)) (kept .have) b)
+        × (((r .part .source, (now (space .exit), (r .part .waiting .count, now (pending .exit))))
+        ≡ heldTaken (responded titles) (now (line .entry)) (kept .have)
+        (kept .part .source, (now (space .entry), (kept .part .waiting .count, now (pending .entry)))) b)
+        × Ready (r .have) (r .part .waiting .count) (now (line .exit)) (now (pending .exit))) ⌝ }
+{
+    let have = line_hex::keep(line, kept.have, b);
+    let part = kept.part;
+    if b != line_hex::LF {
+        return Kept { have, part };
+    }
+    let after = respond(titles, space, &line[0..have], pending, part);
+    Kept {
+        have: 0,
+        part: after,
+    }
+}
+
+// The bytes of one read. Whole lines get what they get, though the space keeps only so much of a long one.
+fn feed(
+    titles: bool,
+    space: &mut [u32],
+    line: &mut [u8],
+    pending: &mut [u8],
+    from: Kept,
+    chunk: &[u8],
+) -> Kept
+    requires { ⌜ Ready (from .have) (from .part .waiting .count) (now line) (now pending) ⌝ }
+    ensures { λ r. ⌜ ((r .have, now (line .exit)) ≡ fed (now (line .entry)) (from .have) (now (chunk .entry)))
+        × (((r .part .source, (now (space .exit), (r .part .waiting .count, now (pending .exit))))
+        ≡ heldFed (responded titles) (now (line .entry)) (from .have)
+        (from .part .source, (now (space .entry), (from .part .waiting .count, now (pending .entry)))) (now (chunk .entry)))
+        × (WholeResponded titles (now (line .entry)) (from .have)
+        (from .part .source, (now (space .entry), (from .part .waiting .count, now (pending .entry)))) (now (chunk .entry))
+        (r .part .source, (now (space .exit), (r .part .waiting .count, now (pending .exit))))
+        × Ready (r .have) (r .part .waiting .count) (now (line .exit)) (now (pending .exit)))) ⌝ }
+{
+    let first = from.part;
+    let mut have = from.have;
+    let mut source = first.source;
+    let mut waiting = first.waiting;
+    let mut i = 0;
+    while i < chunk.len() {
+        let part = Played { source, waiting };
+        let kept = take(titles, space, line, pending, Kept { have, part }, chunk[i]);
+        let after = kept.part;
+        have = kept.have;
+        source = after.source;
+        waiting = after.waiting;
+        i += 1;
+    }
+    let part = Played { source, waiting };
+    Kept { have, part }
+}
+
+// What comes of a read: what is kept of input that goes on, or nothing was read.
+enum More {
+    Yes(Kept),
+    End,
+}
+
+// One read, and its bytes; what is put out for them is written before the next. Once the output takes no more, nothing is read.
+fn some(
+    file: i32,
+    titles: bool,
+    space: &mut [u32],
+    line: &mut [u8],
+    pending: &mut [u8],
+    from: Kept,
+) -> More
+    requires { ⌜ (length (now space) ≡ mostWords) × Ready (from .have) (from .part .waiting .count) (now line) (now pending) ⌝ }
+    ensures { λ r. ⌜ AfterRead titles (now (line .entry)) (now (pending .entry)) (from .have) (from .part .source, now (space .entry))
+        (now (line .exit)) (now (pending .exit)) (now (space .exit)) r ⌝ }
+{
+    if !from.part.waiting.open {
+        return More::End;
+    }
+    let mut buffer = io::large_buffer();
+    let got = libc::read(file, &mut buffer);
+    if got <= 0 {
+        return More::End;
+    }
+    let n = io::count(got, &buffer);
+    let kept = feed(titles, space, line, pending, from, &buffer[..n]);
+    let after = kept.part;
+    let source = after.source;
+    let waiting = program_output::flush(pending, after.waiting);
+    More::Yes(Kept {
+        have: kept.have,
+        part: Played { source, waiting },
+    })
+}
+
+// A whole file, a read at a time.
+pub fn read(
+    file: i32,
+    titles: bool,
+    space: &mut [u32],
+    line: &mut [u8],
+    pending: &mut [u8],
+    from: Kept,
+) -> Kept
+    requires { ⌜ (length (now space) ≡ mostWords) × Ready (from .have) (from .part .waiting .count) (now line) (now pending) ⌝ }
+    ensures { λ r. ⌜ Read titles (now (line .entry)) (from .have) (from .part .source, now (space .entry))
+        (now (line .exit)) (r .have) (r .part .source, now (space .exit))
+        × Ready (r .have) (r .part .waiting .count) (now (line .exit)) (now (pending .exit)) ⌝ }
+{
+    let before = from.part;
+    let mut have = from.have;
+    let mut source = before.source;
+    let mut waiting = before.waiting;
+    // A loop must end, and nothing says that input does: so many reads no run makes.
+    let mut turns = u64::MAX;
+    while turns > 0 {
+        let part = Played { source, waiting };
+        match some(file, titles, space, line, pending, Kept { have, part }) {
+            More::Yes(kept) => {
+                let after = kept.part;
+                have = kept.have;
+                source = after.source;
+                waiting = after.waiting;
+            }
+            More::End => {
+                let part = Played { source, waiting };
+                return Kept { have, part };
+            }
+        }
+        turns -= 1;
+    }
+    let part = Played { source, waiting };
+    Kept { have, part }
+}
+
+// Before any input: no character of a line, and no output.
+pub fn start(source: Source) -> Kept
+    ensures { λ r. ⌜ (r .have ≡ 0) × ((r .part .source ≡ source) × (r .part .waiting .count ≡ 0)) ⌝ }
+{
+    let waiting = Waiting {
+        count: 0,
+        open: true,
+    };
+    Kept {
+        have: 0,
+        part: Played { source, waiting },
+    }
+}
+
+// All input is at its end: a last piece without LF is a line too.
+pub fn end(titles: bool, space: &mut [u32], line: &[u8], pending: &mut [u8], kept: Kept) -> Waiting
+    requires { ⌜ Ready (kept .have) (kept .part .waiting .count) (now line) (now pending) ⌝ }
+    ensures { λ r. ⌜ ((now (space .exit), (r .count, now (pending .exit)))
+        ≡ lastEnded titles (take (kept .have) (now (line .entry)))
+        (kept .part .source, (now (space .entry), (kept .part .waiting .count, now (pending .entry)))))
+        × (WholeLast titles (now (line .entry)) (kept .have)
+        (kept .part .source, (now (space .entry), (kept .part .waiting .count, now (pending .entry))))
+        (now (space .exit), (r .count, now (pending .exit)))
+        × HasRoom (r .count) (now (pending .exit))) ⌝ }
+{
+    let have = kept.have;
+    let part = kept.part;
+    if have == 0 {
+        return finish(space, pending, part);
+    }
+    let last = respond(titles, space, &line[0..have], pending, part);
+    finish(space, pending, last)
+}
+
+// A whole program on standard input without titles: a session, or a form.
+pub fn run(source: Source) {
+    let mut space = [0u32; MOST_WORDS];
+    let mut line = [0u8; LINE];
+    let mut pending = [0u8; PENDING];
+    let first = start(source);
+    let kept = read(
+        STDIN_FILENO,
+        false,
+        &mut space,
+        &mut line,
+        &mut pending,
+        first,
+    );
+    let last = end(false, &mut space, &line, &mut pending, kept);
+    program_output::flush(&pending, last);
+}
