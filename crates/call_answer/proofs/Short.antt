@@ -4,7 +4,6 @@ use mathlib.Core.Bool.{Bool, true, false}
 use mathlib.Core.List.{List, [], _∷_}
 use Prim.Native.Nat.{ℕ, _≤_}
 use native.Mathlib.Omega.{arith}
-use lib.Dec.{eqb}
 use lib.ListN.{length}
 use Rattle.meaning.specs.Calls as meaning
 use Rattle.words_layout.specs.Layout.{tableOf}
@@ -16,6 +15,8 @@ use Rattle.line_read.specs.Types.{count, done}
 use Rattle.line_read.specs.Named.{openingRead, questionRead}
 use Rattle.line_read.proofs.Lengths.{line-length}
 use Rattle.line_decode.specs.Decoding.{bytesOf}
+use Rattle.line_decode.specs.declared.LineKind.{LineKind}
+use Rattle.line_decode.specs.declared.LineKind.the-variants as kind
 use Rattle.call_question.specs.AnswerBytes.{refusalBytes, replyBytes, longestAnswerBytes}
 use Rattle.call_question.proofs.Short.{refusal-long, reply-short}
 use Rattle.call_checked.specs.declared.Opened.{Opened}
@@ -64,14 +65,13 @@ module _ (words : List ℕ) (K : Checked words) (line : List ℕ) where
   unfolding secondOpening
   second-short = refusal-short (pick (openingRead (bytesOf line) .ok) 13 1)
 
-pub answer-short : (words : List ℕ) → Checked words → (type : ℕ) (line : List ℕ) → length (answerOn type line words .0) ≤ longestAnswerBytes
+pub answer-short : (words : List ℕ) → Checked words → (k : LineKind) (line : List ℕ) → length (answerOn k line words .0) ≤ longestAnswerBytes
 unfolding answerOn
-answer-short words K type line = by (eqb type 32) (eqb type 33) (eqb type 48) (eqb type 64) (eqb type 16)
-  where
-    by : (a b c d e : Bool) → length (pick a (receivedBytes (receivedOn line words .0), receivedOn line words .1) (pick b (issueAnswer line words) (pick c (settledBytes (settledOn line words .0), settledOn line words .1) (pick d (questionAnswer line words, words) (pick e (secondOpening line, words) (refusalBytes 1, words))))) .0) ≤ longestAnswerBytes
-    by true b c d e = received-short (receivedOn line words .0)
-    by false true c d e = issue-short words K line
-    by false false true d e = settled-short (settledOn line words .0)
-    by false false false true e = question-short words K line
-    by false false false false true = second-short words K line
-    by false false false false false = refusal-short 1
+answer-short words K kind.Opening line = second-short words K line
+answer-short words K kind.Operation line = received-short (receivedOn line words .0)
+answer-short words K kind.Issue line = issue-short words K line
+answer-short words K kind.Settling line = settled-short (settledOn line words .0)
+answer-short words K kind.Question line = question-short words K line
+answer-short words K kind.Printing line = refusal-short 1
+answer-short words K kind.Saved line = refusal-short 1
+answer-short words K kind.Unknown line = refusal-short 1

@@ -1,7 +1,6 @@
 -- What the station program answers to a line at a table: the bytes of its one line, and the table space afterwards.
 use mathlib.Core.List.{List, [], _∷_}
 use Prim.Native.Nat.{ℕ, _+_}
-use lib.Dec.{eqb}
 use Rattle.meaning.specs.Table.{mostRows}
 use Rattle.meaning.specs.Calls as meaning
 use Rattle.words_layout.specs.Layout.{rewritten, tableOf}
@@ -9,9 +8,11 @@ use Rattle.refusal_kind.specs.Asking.{askedFrom}
 use Rattle.line_hex.specs.Choice.{pick}
 use Rattle.line_put.specs.Writing.{lineWritten}
 use Rattle.line_put.specs.declared.Written.{Written}
-use Rattle.line_read.specs.Types.{Line, count, done, issue, lineOf, opening, operation, question, settling, longestFrame}
+use Rattle.line_read.specs.Types.{count, done, lineOf, longestFrame}
 use Rattle.line_read.specs.Named.{issueRead, openingRead, questionRead}
 use Rattle.line_decode.specs.Decoding.{bytesOf}
+use Rattle.line_decode.specs.declared.LineKind.{LineKind}
+use Rattle.line_decode.specs.declared.LineKind.the-variants as kind
 use Rattle.call_question.specs.AnswerBytes.{refusalBytes, replyBytes}
 use Rattle.call_checked.specs.declared.Opened.{Opened}
 use Rattle.call_checked.specs.declared.Opened.the-variants as opened
@@ -64,17 +65,16 @@ secondOpening line = refusalBytes (pick (openingRead (bytesOf line) .ok) 13 1)
 abbrev pub changing : {A : Type 0} → (A → List ℕ) → A × List ℕ → List ℕ × List ℕ
 changing bytesOfAnswer (answer, words) = (bytesOfAnswer answer, words)
 
-abbrev pub isType : ℕ → Line → {A : Type 0} → A → A → A
-isType type line = pick (eqb type (line .typeByte))
-
--- By the line's type: "Lines of type `50` to `5f` are of unknown type here (1)."
-unfoldable pub answerOn : ℕ → List ℕ → List ℕ → List ℕ × List ℕ
-answerOn type line words =
-    isType type operation (changing receivedBytes (receivedOn line words))
-    (isType type issue (issueAnswer line words)
-    (isType type settling (changing settledBytes (settledOn line words))
-    (isType type question (questionAnswer line words, words)
-    (isType type opening (secondOpening line, words) (refusalBytes 1, words)))))
+-- By the line's kind: "Lines of type `50` to `5f` are of unknown type here (1)", and a `60` line that is answered with one line is misshapen.
+unfoldable pub answerOn : LineKind → List ℕ → List ℕ → List ℕ × List ℕ
+answerOn kind.Opening line words = (secondOpening line, words)
+answerOn kind.Operation line words = changing receivedBytes (receivedOn line words)
+answerOn kind.Issue line words = issueAnswer line words
+answerOn kind.Settling line words = changing settledBytes (settledOn line words)
+answerOn kind.Question line words = (questionAnswer line words, words)
+answerOn kind.Printing line words = (refusalBytes 1, words)
+answerOn kind.Saved line words = (refusalBytes 1, words)
+answerOn kind.Unknown line words = (refusalBytes 1, words)
 
 -- The answer's line in a space for it, and the table space.
 unfoldable pub answeredAfter : List ℕ → List ℕ × List ℕ → Written × (List ℕ × List ℕ)

@@ -9,6 +9,7 @@ use call_checked::Issued;
 use call_checked::Opened;
 use call_checked::Received;
 use call_checked::Settled;
+use line_decode::LineKind;
 use line_put::Written;
 use refusal_number::UNOPENED;
 use words_tags::Value;
@@ -90,25 +91,19 @@ fn answer_opening(line: &[u8], out: &mut [u8]) -> Written
     line_print::write_refusal(out, refusal_number::MISSHAPEN)
 }
 
-// The answer to a line of this type.
-pub fn answer_line(space: &mut [u32], line: &[u8], kind: u8, out: &mut [u8]) -> Written
+// The answer to a line of this kind.
+pub fn answer_line(space: &mut [u32], line: &[u8], kind: LineKind, out: &mut [u8]) -> Written
     requires { ⌜ Checked (now space) × (frameRoom ≤ length (now out)) ⌝ }
     ensures { λ w. ⌜ (w, (now (space .exit), now (out .exit))) ≡ answeredAfter (now (out .entry)) (answerOn kind (now (line .entry)) (now (space .entry))) ⌝ }
 {
-    if kind == line_read::OPERATION {
-        return answer_received(call_checked::receive_line(space, line), out);
+    match kind {
+        LineKind::Opening => answer_opening(line, out),
+        LineKind::Operation => answer_received(call_checked::receive_line(space, line), out),
+        LineKind::Issue => answer_issue(space, line, out),
+        LineKind::Settling => answer_settled(call_checked::settle_line(space, line), out),
+        LineKind::Question => answer_question(space, line, out),
+        LineKind::Printing => line_print::write_refusal(out, refusal_number::MISSHAPEN),
+        LineKind::Saved => line_print::write_refusal(out, refusal_number::MISSHAPEN),
+        LineKind::Unknown => line_print::write_refusal(out, refusal_number::MISSHAPEN),
     }
-    if kind == line_read::ISSUE {
-        return answer_issue(space, line, out);
-    }
-    if kind == line_read::SETTLING {
-        return answer_settled(call_checked::settle_line(space, line), out);
-    }
-    if kind == line_read::QUESTION {
-        return answer_question(space, line, out);
-    }
-    if kind == line_read::OPENING {
-        return answer_opening(line, out);
-    }
-    line_print::write_refusal(out, refusal_number::MISSHAPEN)
 }

@@ -1,10 +1,10 @@
 -- The station program's answer, way by way.
 use mathlib.Core.Path.{_≡_, refl, sym, ap, ap₂, _∙_, subst}
-use mathlib.Core.Bool.{Bool, true, false, _&&_, false≢true}
+use mathlib.Core.Bool.{Bool, true, false, _&&_}
 use mathlib.Core.List.{List, [], _∷_, _++_}
 use Prim.Native.Nat.{ℕ, zero, suc, _+_, _-_, _≤_, _<_}
 use native.Mathlib.Omega.{arith}
-use borrow.Author.Tests.{eqb-true, le-leb, ne-eqb}
+use borrow.Author.Tests.{le-leb, ne-eqb}
 use lib.Dec.{eqb}
 use lib.ListN.{drop, length}
 use Rattle.meaning.specs.Table.{isTable}
@@ -12,16 +12,12 @@ use Rattle.meaning.proofs.Tests.{and-right, cases}
 use Rattle.words_layout.specs.Layout.{holdsTable, tableOf}
 use Rattle.table_rules.proofs.Checking.{checked}
 use Rattle.line_hex.specs.Choice.{pick}
-use Rattle.line_hex.specs.Hex.{hexLine, isDigit}
-use Rattle.line_hex.specs.Decoding.{byteOf, isLine, pairOf, pairs, typeOfPair}
-use Rattle.line_hex.specs.declared.Pair.the-variants.{Byte, Other}
-use Rattle.line_shape.specs.Reading.{hasShape, startsWith}
-use Rattle.line_shape.specs.Shapes.{lengthOf}
+use Rattle.line_hex.specs.Hex.{hexLine}
 use Rattle.line_put.specs.Writing.{lineWritten}
 use Rattle.line_put.specs.declared.Written.{Written}
 use Rattle.line_put.specs.declared.Written.the-variants as written
 use Rattle.line_put.proofs.Whole.{length-hex-line}
-use Rattle.line_read.specs.Types.{isOf, refused, longest}
+use Rattle.line_read.specs.Types.{printing, refused}
 use Rattle.line_read.specs.Named.{printingRead}
 use Rattle.line_print.specs.Printed.{printed}
 use Rattle.call_question.specs.AnswerBytes.{refusalBytes, longestAnswerBytes}
@@ -33,45 +29,65 @@ use Rattle.form_save.specs.declared.Saved.{Saved}
 use Rattle.form_save.specs.declared.Saved.the-variants as saved
 use Rattle.call_checked.specs.declared.Opened.{Opened}
 use Rattle.call_checked.specs.Called.{openedBy}
-use Rattle.call_answer.specs.Answering.{answerOn, openedBytes, answeredAfter, frameRoom}
+use Rattle.call_answer.specs.Answering.{answerOn, changing, openedBytes, answeredAfter, frameRoom}
 use Rattle.call_answer.proofs.Choosing.{told}
 use Rattle.call_answer.proofs.Short.{answer-short, opened-short, refusal-short}
-use Rattle.line_decode.specs.Decoding.{byteOfType, bytesOf, typeOf}
+use Rattle.line_decode.specs.Decoding.{bytesOf, typeOf}
+use Rattle.line_decode.specs.LineKinds.{kindOf}
+use Rattle.line_decode.specs.declared.LineKind.{LineKind}
+use Rattle.line_decode.specs.declared.LineKind.the-variants as kind
+use Rattle.line_decode.proofs.KindOfType.{shaped-type}
 use Rattle.calls.specs.declared.Answered.{Answered}
 use Rattle.calls.specs.declared.Answered.the-variants as answered
-use Rattle.calls.specs.Answers.{answeredBy, answerOf, linesFor, printedAt, spaceAfter, longestAnswer}
+use Rattle.calls.specs.Answers.{answeredBy, answerOf, firstAnswer, linesFor, printedAt, spaceAfter, longestAnswer}
 use Rattle.calls.specs.LineOrEnd.{lineOrEnd}
 
+-- before an accepted opening: an opening, or 14
+module _ (line words : List ℕ) where
+  pub first-cases : (C : LineKind → List ℕ × List ℕ → Type 0) → C kind.Opening (changing openedBytes (openedBy line words)) → ((k : LineKind) → C k (refusalBytes 14, words)) → (k : LineKind) → C k (firstAnswer k line words)
+  unfolding firstAnswer
+  first-cases C o n kind.Opening = o
+  first-cases C o n kind.Operation = n kind.Operation
+  first-cases C o n kind.Issue = n kind.Issue
+  first-cases C o n kind.Settling = n kind.Settling
+  first-cases C o n kind.Question = n kind.Question
+  first-cases C o n kind.Printing = n kind.Printing
+  first-cases C o n kind.Saved = n kind.Saved
+  first-cases C o n kind.Unknown = n kind.Unknown
+
+  none-opened : (k : LineKind) → (k ≡ kind.Opening → ⊥) → firstAnswer k line words ≡ (refusalBytes 14, words)
+  none-opened = first-cases (λ k answer. (k ≡ kind.Opening → ⊥) → answer ≡ (refusalBytes 14, words)) (λ n. absurd (n refl)) (λ k n. refl)
+
+  first-fits : (k : LineKind) → length (firstAnswer k line words .0) ≤ longestAnswerBytes
+  first-fits = first-cases (λ k answer. length (answer .0) ≤ longestAnswerBytes) (opened-short (openedBy line words .0)) (λ k. refusal-short 14)
+
 -- on a table, and before an accepted opening
-module _ (line words out : List ℕ) (kind : ℕ) (k : kind ≡ typeOf line) (b : Bool) (e : b ≡ holdsTable words) where
-  pub first-on : b ≡ true → (w : Written) (x y : List ℕ) → (w, (x, y)) ≡ answeredAfter out (answerOn kind line words) → (w, (x, y)) ≡ answeredAfter out (answerOf line words)
+module _ (line words out : List ℕ) (k : LineKind) (e : k ≡ kindOf (typeOf line)) (b : Bool) (t : b ≡ holdsTable words) where
+  pub first-on : b ≡ true → (w : Written) (x y : List ℕ) → (w, (x, y)) ≡ answeredAfter out (answerOn k line words) → (w, (x, y)) ≡ answeredAfter out (answerOf line words)
   unfolding answerOf
-  first-on t w x y p = p ∙ ap (answeredAfter out) (rw (sym e ∙ t, k) refl)
+  first-on h w x y p = p ∙ ap (answeredAfter out) (rw (sym t ∙ h, e) refl)
 
   module _ (f : b ≡ false) where
-    before : pick (eqb kind 16) (openedBytes (openedBy line words .0), openedBy line words .1) (refusalBytes 14, words) ≡ answerOf line words
+    before : firstAnswer k line words ≡ answerOf line words
     unfolding answerOf
-    before = rw (sym e ∙ f, k) refl
+    before = rw (sym t ∙ f, e) refl
 
-    pub first-opens : kind ≡ 16 → (r : Opened) (x : List ℕ) → (r, x) ≡ openedBy line words → (w : Written) (y : List ℕ) → (w, y) ≡ lineWritten out (openedBytes r) → (w, (x, y)) ≡ answeredAfter out (answerOf line words)
+    pub first-opens : k ≡ kind.Opening → (r : Opened) (x : List ℕ) → (r, x) ≡ openedBy line words → (w : Written) (y : List ℕ) → (w, y) ≡ lineWritten out (openedBytes r) → (w, (x, y)) ≡ answeredAfter out (answerOf line words)
+    unfolding firstAnswer
     first-opens z r x g w y p = told out (openedBytes r) x (answerOf line words) (sym before ∙ rw z (ap (λ (q : Opened × List ℕ). (openedBytes (q .0), q .1)) (sym g))) w y x p refl
 
-    pub first-none : (kind ≡ 16 → ⊥) → (w : Written) (y : List ℕ) → (w, y) ≡ printed out refused (14 ∷ []) [] → (w, (words, y)) ≡ answeredAfter out (answerOf line words)
+    pub first-none : (k ≡ kind.Opening → ⊥) → (w : Written) (y : List ℕ) → (w, y) ≡ printed out refused (14 ∷ []) [] → (w, (words, y)) ≡ answeredAfter out (answerOf line words)
     unfolding printed refusalBytes
-    first-none n w y p = told out (refusalBytes 14) words (answerOf line words) (sym before ∙ rw (ne-eqb kind 16 n) refl) w y words p refl
+    first-none n w y p = told out (refusalBytes 14) words (answerOf line words) (sym before ∙ none-opened line words k n) w y words p refl
 
 -- every answer's line has room
 pub answer-fits : (line words : List ℕ) → length (answerOf line words .0) ≤ longestAnswerBytes
 unfolding answerOf
-answer-fits line words = by (holdsTable words) (λ h. answer-short words (checked words h) (typeOf line) line)
+answer-fits line words = by (holdsTable words) (λ h. answer-short words (checked words h) (kindOf (typeOf line)) line)
   where
-    other : (c : Bool) → length (pick {A = List ℕ × List ℕ} c (openedBytes (openedBy line words .0), openedBy line words .1) (refusalBytes 14, words) .0) ≤ longestAnswerBytes
-    other true = opened-short (openedBy line words .0)
-    other false = refusal-short 14
-
-    by : (b : Bool) → (b ≡ true → length (answerOn (typeOf line) line words .0) ≤ longestAnswerBytes) → length (pick {A = List ℕ × List ℕ} b (answerOn (typeOf line) line words) (pick (eqb (typeOf line) 16) (openedBytes (openedBy line words .0), openedBy line words .1) (refusalBytes 14, words)) .0) ≤ longestAnswerBytes
+    by : (b : Bool) → (b ≡ true → length (answerOn (kindOf (typeOf line)) line words .0) ≤ longestAnswerBytes) → length (pick b (answerOn (kindOf (typeOf line)) line words) (firstAnswer (kindOf (typeOf line)) line words) .0) ≤ longestAnswerBytes
     by true f = f refl
-    by false f = other (eqb (typeOf line) 16)
+    by false f = first-fits line words (kindOf (typeOf line))
 
 -- a line that has room
 module _ (out bytes : List ℕ) (room : length (hexLine bytes) ≤ length out) where
@@ -131,7 +147,7 @@ formed-prints (saved.Refused number) y lines k out f = absurd f
 formed-prints (saved.Line n) y lines k out f = f
 formed-prints saved.End y lines k out f = f
 
-module _ (line words out : List ℕ) (t : typeOf line ≡ 96) (room : frameRoom ≤ length out) (k : ℕ) where
+module _ (line words out : List ℕ) (t : kindOf (typeOf line) ≡ kind.Printing) (room : frameRoom ≤ length out) (k : ℕ) where
   abbrev told-by : Bool → Bool → Saved × List ℕ
   told-by held read = pick held (pick read (savedAs out (lineAt (savedForm (tableOf words)) k out)) (saved.Refused 1, out)) (saved.Refused 14, out)
 
@@ -146,7 +162,7 @@ module _ (line words out : List ℕ) (t : typeOf line ≡ 96) (room : frameRoom 
   prints-by false read f = (refl, refl)
 
   answer-by : answerOf line words ≡ pick (holdsTable words) (refusalBytes 1, words) (refusalBytes 14, words)
-  unfolding answerOf answerOn
+  unfolding answerOf answerOn firstAnswer
   answer-by = rw t refl
 
   pub printing-stays : spaceAfter line k words ≡ words
@@ -180,54 +196,43 @@ module _ (line words out : List ℕ) (t : typeOf line ≡ 96) (room : frameRoom 
     pub form-refused : (number : ℕ) → r ≡ saved.Refused number → (a : Answered) (z : List ℕ) → (a, z) ≡ printedAt (refusalBytes number ∷ []) k y → (a, z) ≡ printedAt (linesFor line words) k out
     form-refused number h a z p = let q = prints-as (saved.Refused number) h in p ∙ ap₂ (λ (l : List (List ℕ)) (x : List ℕ). printedAt l k x) (sym (q .1)) (q .0)
 
--- a `60` line is of type `60`
-pub starts-type : (n kind : ℕ) (line : List ℕ) → startsWith kind (pairs (suc n) line) ≡ true → typeOf line ≡ kind
-unfolding pairs pairOf typeOf startsWith
-starts-type n kind [] e = absurd (false≢true e)
-starts-type n kind (h ∷ []) e = absurd (false≢true e)
-starts-type n kind (h ∷ l ∷ line) e = by (isDigit h && isDigit l) e
-  where
-    by : (b : Bool) → startsWith kind (pick b (byteOf h l ∷ pairs n line) []) ≡ true → byteOfType (typeOfPair (pick b (Byte (byteOf h l)) Other)) ≡ kind
-    by true f = eqb-true (byteOf h l) kind f
-    by false f = absurd (false≢true f)
-
-pub printing-type : (line : List ℕ) → printingRead (bytesOf line) ≡ true → typeOf line ≡ 96
-unfolding printingRead isOf hasShape bytesOf startsWith lengthOf
-printing-type line = by (isLine longest line)
-  where
-    by : (b : Bool) → (eqb (length (pick b (pairs longest line) [])) 1 && startsWith 96 (pick b (pairs longest line) [])) ≡ true → typeOf line ≡ 96
-    by true e = starts-type (longest - 1) 96 line (and-right (eqb (length (pairs longest line)) 1) (startsWith 96 (pairs longest line)) e)
-    by false e = absurd (false≢true e)
+-- a `60` line is a printing one
+pub printing-kind : (line : List ℕ) → printingRead (bytesOf line) ≡ true → kindOf (typeOf line) ≡ kind.Printing
+unfolding printingRead kindOf
+printing-kind line e = rw (shaped-type printing 0 line e) refl
 
 -- every other line is answered with one
-module _ (line words out : List ℕ) (kind : ℕ) (e : kind ≡ typeOf line) where
-  module _ (z : kind ≡ 96) (k : ℕ) where
-    pub is-printing : typeOf line ≡ 96
+pub one-line : (line words : List ℕ) → (printingRead (bytesOf line) ≡ true → ⊥) → linesFor line words ≡ answerOf line words .0 ∷ []
+unfolding linesFor
+one-line line words n = cases (holdsTable words && printingRead (bytesOf line))
+    (λ b. absurd (n (and-right (holdsTable words) (printingRead (bytesOf line)) b)))
+    (λ b. rw b refl)
+
+module _ (line words out : List ℕ) (k : LineKind) (e : k ≡ kindOf (typeOf line)) where
+  module _ (z : k ≡ kind.Printing) (place : ℕ) where
+    pub is-printing : kindOf (typeOf line) ≡ kind.Printing
     is-printing = sym e ∙ z
 
-    pub answer-formed : length out ≡ longestAnswer → (r : Answered) (y : List ℕ) → (r, y) ≡ printedAt (linesFor line words) k out → (r, (words, y)) ≡ answeredBy line k words out
+    pub answer-formed : length out ≡ longestAnswer → (r : Answered) (y : List ℕ) → (r, y) ≡ printedAt (linesFor line words) place out → (r, (words, y)) ≡ answeredBy line place words out
     unfolding answeredBy
-    answer-formed long r y p = ap₂ (λ (q : Answered × List ℕ) (l : List ℕ). (q .0, (l, q .1))) p (sym (printing-stays line words out is-printing (omega (arith, long)) k))
+    answer-formed long r y p = ap₂ (λ (q : Answered × List ℕ) (l : List ℕ). (q .0, (l, q .1))) p (sym (printing-stays line words out is-printing (omega (arith, long)) place))
 
-  module _ (n : kind ≡ 96 → ⊥) where
-    pub one-line : linesFor line words ≡ answerOf line words .0 ∷ []
-    unfolding linesFor
-    one-line = cases (holdsTable words && printingRead (bytesOf line))
-        (λ b. absurd (n (e ∙ printing-type line (and-right (holdsTable words) (printingRead (bytesOf line)) b))))
-        (λ b. rw b refl)
+  module _ (n : k ≡ kind.Printing → ⊥) where
+    alone : linesFor line words ≡ answerOf line words .0 ∷ []
+    alone = one-line line words (λ r. n (e ∙ printing-kind line r))
 
-    pub answer-ended : (k : ℕ) → (k ≡ 0 → ⊥) → (answered.End, (words, out)) ≡ answeredBy line k words out
+    pub answer-ended : (place : ℕ) → (place ≡ 0 → ⊥) → (answered.End, (words, out)) ≡ answeredBy line place words out
     unfolding answeredBy spaceAfter
-    answer-ended k h = rw (one-line, ne-eqb k 0 h) (ap (λ (q : Answered × List ℕ). (q .0, (words, q .1))) (only-later (answerOf line words .0) out k (omega (arith, h))))
+    answer-ended place h = rw (alone, ne-eqb place 0 h) (ap (λ (q : Answered × List ℕ). (q .0, (words, q .1))) (only-later (answerOf line words .0) out place (omega (arith, h))))
 
-    pub answer-lined : (k : ℕ) → k ≡ 0 → length out ≡ longestAnswer → (w : Written) (x y : List ℕ) → (w, (x, y)) ≡ answeredAfter out (answerOf line words) → (r : Answered) → r ≡ lineOrEnd w → (r, (x, y)) ≡ answeredBy line k words out
+    pub answer-lined : (place : ℕ) → place ≡ 0 → length out ≡ longestAnswer → (w : Written) (x y : List ℕ) → (w, (x, y)) ≡ answeredAfter out (answerOf line words) → (r : Answered) → r ≡ lineOrEnd w → (r, (x, y)) ≡ answeredBy line place words out
     unfolding answeredBy spaceAfter answeredAfter
-    answer-lined k zero-th long w x y p r f =
+    answer-lined place zero-th long w x y p r f =
         let bytes = answerOf line words .0 in
         let line-is : _≡_ {A = Written × List ℕ} (w, y) (lineWritten out bytes) = ap (λ (q : Written × (List ℕ × List ℕ)). (q .0, q .1 .1)) p in
         let space-is : x ≡ answerOf line words .1 = ap (λ (q : Written × (List ℕ × List ℕ)). q .1 .0) p in
         let told : _≡_ {A = Answered × List ℕ} (r, y) (printedAt (bytes ∷ []) 0 out) = ap (λ (a : Answered). (a, y)) f ∙ only-line out bytes (omega (arith, length-hex-line bytes, answer-fits line words)) w y line-is in
-        rw (one-line, zero-th) (ap₂ (λ (q : Answered × List ℕ) (l : List ℕ). (q .0, (l, q .1))) told space-is)
+        rw (alone, zero-th) (ap₂ (λ (q : Answered × List ℕ) (l : List ℕ). (q .0, (l, q .1))) told space-is)
 
 -- how a line that was written is told
 pub told-line : (w : Written) (n : ℕ) → w ≡ written.Characters n → answered.Line n ≡ lineOrEnd w

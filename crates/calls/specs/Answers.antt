@@ -7,21 +7,33 @@ use lib.ListN.{drop, length}
 use Rattle.words_layout.specs.Layout.{holdsTable, tableOf}
 use Rattle.line_hex.specs.Choice.{pick}
 use Rattle.line_hex.specs.Hex.{hexLine}
-use Rattle.line_read.specs.Types.{opening, charactersOf}
+use Rattle.line_read.specs.Types.{charactersOf}
 use Rattle.line_read.specs.Named.{printingRead}
 use Rattle.line_decode.specs.Decoding.{bytesOf, typeOf}
+use Rattle.line_decode.specs.LineKinds.{kindOf}
+use Rattle.line_decode.specs.declared.LineKind.{LineKind}
+use Rattle.line_decode.specs.declared.LineKind.the-variants as kind
 use Rattle.form_write.specs.Forms.{savedForm}
 use Rattle.call_question.specs.AnswerBytes.{refusalBytes, longestAnswerBytes}
 use Rattle.call_checked.specs.Called.{openedBy}
-use Rattle.call_answer.specs.Answering.{answerOn, changing, isType, openedBytes}
+use Rattle.call_answer.specs.Answering.{answerOn, changing, openedBytes}
 use Rattle.calls.specs.declared.Answered.{Answered}
 use Rattle.calls.specs.declared.Answered.the-variants as answered
 
 -- "A line before an accepted opening gets `ff0e`, unless it is itself of type `10`": the bytes of the answer, and the space afterwards.
+unfoldable pub firstAnswer : LineKind → List ℕ → List ℕ → List ℕ × List ℕ
+firstAnswer kind.Opening line words = changing openedBytes (openedBy line words)
+firstAnswer kind.Operation line words = (refusalBytes 14, words)
+firstAnswer kind.Issue line words = (refusalBytes 14, words)
+firstAnswer kind.Settling line words = (refusalBytes 14, words)
+firstAnswer kind.Question line words = (refusalBytes 14, words)
+firstAnswer kind.Printing line words = (refusalBytes 14, words)
+firstAnswer kind.Saved line words = (refusalBytes 14, words)
+firstAnswer kind.Unknown line words = (refusalBytes 14, words)
+
+-- The same on any space.
 unfoldable pub answerOf : List ℕ → List ℕ → List ℕ × List ℕ
-answerOf line words =
-    pick (holdsTable words) (answerOn (typeOf line) line words)
-    (isType (typeOf line) opening (changing openedBytes (openedBy line words)) (refusalBytes 14, words))
+answerOf line words = pick (holdsTable words) (answerOn (kindOf (typeOf line)) line words) (firstAnswer (kindOf (typeOf line)) line words)
 
 -- The output lines for an input line, each as its bytes: one, but "`60` prints the saved lines only".
 unfoldable pub linesFor : List ℕ → List ℕ → List (List ℕ)

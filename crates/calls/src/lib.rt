@@ -5,6 +5,7 @@ ghost use mathlib.Core.List.{[], _∷_};
 ghost use Prim.Native.Nat.{_≤_};
 ghost use lib.ListN.{length};
 ghost use Rattle.line_decode.specs.Decoding.{typeOf};
+ghost use Rattle.line_decode.specs.LineKinds.{kindOf};
 ghost use Rattle.form_save.specs.Saving.{savedBy};
 ghost use Rattle.call_question.specs.AnswerBytes.{refusalBytes};
 ghost use Rattle.call_answer.specs.Answering.{frameRoom, answeredAfter};
@@ -16,6 +17,7 @@ use call_checked::Opened;
 use call_checked::Received;
 use call_checked::Settled;
 use form_save::Saved;
+use line_decode::LineKind;
 use line_put::Written;
 use question::Reply;
 use refusal_number::NO_TABLE;
@@ -93,16 +95,15 @@ pub enum Answered {
     End,
 }
 
-// The one line that a line is answered with; before an accepted opening, 14 unless it is itself an opening.
-fn answer_first(space: &mut [u32], line: &[u8], out: &mut [u8]) -> Written
-    requires { ⌜ frameRoom ≤ length (now out) ⌝ }
+// The one line that a line of this kind is answered with; before an accepted opening, 14 unless it is itself an opening.
+fn answer_first(space: &mut [u32], line: &[u8], kind: LineKind, out: &mut [u8]) -> Written
+    requires { ⌜ (kind ≡ kindOf (typeOf (now line))) × (frameRoom ≤ length (now out)) ⌝ }
     ensures { λ w. ⌜ (w, (now (space .exit), now (out .exit))) ≡ answeredAfter (now (out .entry)) (answerOf (now (line .entry)) (now (space .entry))) ⌝ }
 {
-    let kind = line_decode::type_of(line);
     if table_rules::is_table(space) {
         return call_answer::answer_line(space, line, kind, out);
     }
-    if kind == line_read::OPENING {
+    if let LineKind::Opening = kind {
         return call_answer::answer_opened(call_checked::open_line(space, line), out);
     }
     line_print::write_refusal(out, NO_TABLE)
@@ -131,7 +132,7 @@ fn refuse_at(number: u32, k: usize, out: &mut [u8]) -> Answered
 
 // The k-th line for a line of type `60`: of the saved form, or of a refusal.
 fn answer_printing(space: &[u32], line: &[u8], k: usize, out: &mut [u8]) -> Answered
-    requires { ⌜ (typeOf (now line) ≡ 96) × (frameRoom ≤ length (now out)) ⌝ }
+    requires { ⌜ (kindOf (typeOf (now line)) ≡ LineKind.Printing) × (frameRoom ≤ length (now out)) ⌝ }
     ensures { λ r. ⌜ (r, now (out .exit)) ≡ printedAt (linesFor (now (line .entry)) (now (space .entry))) k (now (out .entry)) ⌝ }
 {
     match save_line(space, line, k, out) {
@@ -145,11 +146,12 @@ fn answer_printing(space: &[u32], line: &[u8], k: usize, out: &mut [u8]) -> Answ
 pub fn answer(space: &mut [u32], line: &[u8], k: usize, out: &mut [u8; LONGEST_ANSWER]) -> Answered
     ensures { λ r. ⌜ (r, (now (space .exit), now (out .exit))) ≡ answeredBy (now (line .entry)) k (now (space .entry)) (now (out .entry)) ⌝ }
 {
-    if line_decode::type_of(line) == line_read::PRINTING {
+    let kind = line_decode::kind_of(line);
+    if let LineKind::Printing = kind {
         return answer_printing(space, line, k, out);
     }
     if k == 0 {
-        return line_or_end(answer_first(space, line, out));
+        return line_or_end(answer_first(space, line, kind, out));
     }
     Answered::End
 }

@@ -5,10 +5,13 @@ use mathlib.Core.List.{List, [], _∷_}
 use Prim.Native.Nat.{ℕ}
 use Rattle.words_layout.specs.Layout.{holdsTable}
 use Rattle.line_decode.specs.Decoding.{bytesOf, typeOf}
+use Rattle.line_decode.specs.LineKinds.{kindOf}
+use Rattle.line_decode.specs.declared.LineKind.{LineKind}
+use Rattle.line_decode.specs.declared.LineKind.the-variants as kind
 use Rattle.call_checked.specs.Called.{openedBy}
 use Rattle.form_take.specs.declared.Loaded.{Loaded}
 use Rattle.form_take.specs.declared.Loaded.the-variants as loaded
-use Rattle.form_load.specs.Loading.{firstTaken, loadedBy, loadEnded}
+use Rattle.form_load.specs.Loading.{firstAs, firstTaken, loadedBy, loadEnded}
 use Rattle.form_load.proofs.Outcomes.{closes-to-table}
 use Rattle.form_judge.specs.declared.Judged.{Judged}
 use Rattle.form_judge.specs.declared.Judged.the-variants as judged
@@ -107,9 +110,20 @@ module _ (a b : List ℕ) (same : bytesOf a ≡ bytesOf b) (type : typeOf a ≡ 
   unfolding openedBy
   opened-alike words = rw same refl
 
+  kinds-alike : (k : LineKind) (words : List ℕ) → firstAs k a words ≡ firstAs k b words
+  unfolding firstAs
+  kinds-alike kind.Opening words = rw (opened-alike words) refl
+  kinds-alike kind.Operation words = refl
+  kinds-alike kind.Issue words = refl
+  kinds-alike kind.Settling words = refl
+  kinds-alike kind.Question words = refl
+  kinds-alike kind.Printing words = refl
+  kinds-alike kind.Saved words = refl
+  kinds-alike kind.Unknown words = refl
+
   first-alike : (words : List ℕ) → firstTaken a words ≡ firstTaken b words
   unfolding firstTaken
-  first-alike words = rw (type, opened-alike words) refl
+  first-alike words = rw type (kinds-alike (kindOf (typeOf b)) words)
 
   loaded-alike : (words : List ℕ) → loadedBy a words ≡ loadedBy b words
   unfolding loadedBy

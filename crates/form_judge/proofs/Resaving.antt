@@ -22,18 +22,14 @@ use Rattle.calls.specs.declared.Answered.{Answered}
 use Rattle.calls.specs.declared.Answered.the-variants as answered
 use Rattle.calls.specs.Answers.{answeredBy, linesFor, printedAt, longestAnswer}
 use Rattle.calls.proofs.Counting.{lines-count}
-use Rattle.calls.proofs.Answering.{printing-stays, refused-first, told-end, told-line}
+use Rattle.calls.proofs.Answering.{printing-kind, printing-stays, refused-first, told-end, told-line}
 use Rattle.form_judge.specs.declared.Judged.{Judged}
 use Rattle.form_judge.specs.declared.Judged.the-variants as judged
 use Rattle.form_judge.specs.Judging.{judgedAll, judgedEnd, printing, resavedBy, resavedLines}
 use Rattle.form_judge.proofs.Judging.{closed-is-table}
 use Rattle.call_answer.specs.Answering.{frameRoom}
 
--- `60` is of type `60`, in its right shape
-printing-type : typeOf printing ≡ 96
-unfolding typeOf pairOf isDigit valueOf
-printing-type = refl
-
+-- `60` is a printing line in its right shape
 printing-read : printingRead (bytesOf printing) ≡ true
 unfolding printingRead isOf hasShape bytesOf startsWith lengthOf isLine pairs isDigit valueOf justLf
 printing-read = refl
@@ -69,7 +65,7 @@ module _ (words out : List ℕ) (k : ℕ) (before : Judged) where
   unfolding resavedBy resavedLines answeredBy
   closed-resaved e r x y p =
       p
-      ∙ ap (λ (s : List ℕ). (printedAt (linesFor printing words) k out .0, (s, printedAt (linesFor printing words) k out .1))) (printing-stays printing words (replicate frameRoom 0) printing-type (omega (arith, length-replicate {A = ℕ} frameRoom 0)) k)
+      ∙ ap (λ (s : List ℕ). (printedAt (linesFor printing words) k out .0, (s, printedAt (linesFor printing words) k out .1))) (printing-stays printing words (replicate frameRoom 0) (printing-kind printing printing-read) (omega (arith, length-replicate {A = ℕ} frameRoom 0)) k)
       ∙ sym (ap (λ (v : Judged). resavedBy v k words out) e)
 
   pub refused-resaved : (number : ℕ) → before ≡ judged.Refused number → (r : Answered) (y : List ℕ) → (r, y) ≡ printedAt (refusalBytes number ∷ []) k out → (r, (words, y)) ≡ resavedBy before k words out

@@ -27,6 +27,7 @@ use Rattle.line_read.specs.SavedNamed.{clockRead, closingRead, lastRead, rowRea
 use Rattle.line_read.proofs.Vectors.{clock-vector, last-vector, row-vector}
 use Rattle.line_read.specs.Named.{openingRead}
 use Rattle.line_decode.specs.Decoding.{bytesOf, typeOf}
+use Rattle.line_decode.specs.LineKinds.{kindOf}
 use Rattle.call_checked.specs.declared.Opened.{Opened}
 use Rattle.call_checked.specs.declared.Opened.the-variants as opening
 use Rattle.call_checked.specs.Called.{headerRead, openedAs, openedBy}
@@ -42,7 +43,8 @@ use Rattle.form_take.specs.Taking.{clockTaken, closed, finished, lastTaken, pro
 use Rattle.form_take.proofs.Words.{passed, picked}
 use Rattle.form_load.specs.declared.Next.{Next}
 use Rattle.form_load.specs.declared.Next.the-variants as next
-use Rattle.form_load.specs.Loading.{begun, behindLasts, firstTaken, headLoads, loadWaits, loadedBy, nextAfter, nextIn, savedType, takenAs, underLoad, waits}
+use Rattle.form_load.specs.Loading.{begun, behindLasts, firstTaken, headLoads, loadWaits, loadedBy, nextAfter, nextIn, takenAs, underLoad, waits}
+use Rattle.form_load.proofs.Loads.{first-cases}
 use Rattle.form_load.proofs.Nexts.{load-head, load-object, load-station, load-waits}
 
 -- words in front of a place stay
@@ -323,12 +325,7 @@ module _ (line s : List ℕ) where
 
   first-on : GoesOn (firstTaken line s)
   unfolding firstTaken
-  first-on = by (eqb (typeOf line) 16) (savedType (typeOf line)) (begun (openedBy line s)) begun-on
-    where
-      by : (b c : Bool) (p : Loaded × List ℕ) → GoesOn p → GoesOn (pick b p (pick c (loaded.Refused 15, s) (loaded.Refused 1, s)))
-      by true c p h = h
-      by false true p h = tt
-      by false false p h = tt
+  first-on = first-cases line s (λ _ taken. GoesOn taken) begun-on tt (λ _. tt) (kindOf (typeOf line))
 
   -- every line that is taken, an opening too
   pub taken-goes-on : (x : List ℕ) → loadedBy line s ≡ (loaded.Taken, x) → underLoad x ≡ true

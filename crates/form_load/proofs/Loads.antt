@@ -1,20 +1,20 @@
 -- A line and the end of a form, way by way.
-use mathlib.Core.Path.{_≡_, sym, ap, _∙_, subst}
+use mathlib.Core.Path.{_≡_, refl, sym, ap, _∙_, subst}
 use mathlib.Core.Bool.{Bool, true, false}
 use mathlib.Core.List.{List, _++_}
-use Prim.Native.Nat.{ℕ, _-_, _≤_, _<_}
+use Prim.Native.Nat.{ℕ, _-_, _<_}
 use native.Mathlib.Omega.{arith}
-use borrow.Author.Tests.{eq-eqb, ne-eqb}
-use lib.Dec.{eqb}
 use lib.ListN.{drop, length, set, take}
 use Rattle.meaning.specs.Table.{Table}
 use Rattle.meaning.specs.Calls as meaning
-use Rattle.meaning.proofs.Tests.{between-in, between-out, fails}
 use Rattle.words_layout.specs.Layout.{holdsTable, spaceFor, wordsOf}
 use Rattle.line_hex.specs.Choice.{pick}
 use Rattle.words_tags.specs.declared.Station.{Station}
 use Rattle.line_read.specs.Named.{openingRead}
 use Rattle.line_decode.specs.Decoding.{bytesOf, decodedInto, typeOf}
+use Rattle.line_decode.specs.LineKinds.{kindOf}
+use Rattle.line_decode.specs.declared.LineKind.{LineKind}
+use Rattle.line_decode.specs.declared.LineKind.the-variants as kind
 use Rattle.line_decode.proofs.Decoding.{heard-front}
 use Rattle.call_checked.specs.declared.Opened.{Opened}
 use Rattle.call_checked.specs.declared.Opened.the-variants as opened
@@ -25,7 +25,7 @@ use Rattle.form_take.specs.Taking.{clockTaken, lastTaken, rowOrClosing, spoilt,
 use Rattle.form_take.proofs.Words.{passed, picked}
 use Rattle.form_load.specs.declared.Next.{Next}
 use Rattle.form_load.specs.declared.Next.the-variants as next
-use Rattle.form_load.specs.Loading.{begun, firstTaken, loadEnded, loadedBy, nextIn, savedType, takenAs, underLoad}
+use Rattle.form_load.specs.Loading.{begun, firstAs, firstTaken, loadEnded, loadedBy, nextIn, takenAs, underLoad}
 use Rattle.line_read.specs.Types.{longest}
 
 -- by what comes next
@@ -90,25 +90,34 @@ module _ (line s : List ℕ) (o : Opened) (x : List ℕ) (e : (o, x) ≡ openedB
   unfolding begun
   begin-fresh h = sym (ap (λ (q : Opened). begun (q, x)) h) ∙ ap begun e
 
--- a line when no load is under way
-module _ (line s : List ℕ) (byte : ℕ) (e : byte ≡ typeOf line) where
-  pub first-opening : byte ≡ 16 → (r : Loaded) (x : List ℕ) → (r, x) ≡ begun (openedBy line s) → (r, x) ≡ firstTaken line s
-  unfolding firstTaken
-  first-opening h r x g = g ∙ sym (picked (eqb (typeOf line) 16) (begun (openedBy line s)) (pick (savedType (typeOf line)) (loaded.Refused 15, s) (loaded.Refused 1, s)) (eq-eqb (typeOf line) 16 (sym e ∙ h)))
+-- a line when no load is under way: an opening, a saved line, or another
+module _ (line s : List ℕ) where
+  pub first-cases : (C : LineKind → Loaded × List ℕ → Type 0) → C kind.Opening (begun (openedBy line s)) → C kind.Saved (loaded.Refused 15, s) → ((k : LineKind) → C k (loaded.Refused 1, s)) → (k : LineKind) → C k (firstAs k line s)
+  unfolding firstAs
+  first-cases C o v n kind.Opening = o
+  first-cases C o v n kind.Operation = n kind.Operation
+  first-cases C o v n kind.Issue = n kind.Issue
+  first-cases C o v n kind.Settling = n kind.Settling
+  first-cases C o v n kind.Question = n kind.Question
+  first-cases C o v n kind.Printing = n kind.Printing
+  first-cases C o v n kind.Saved = v
+  first-cases C o v n kind.Unknown = n kind.Unknown
 
-  module _ (d : byte ≡ 16 → ⊥) where
-    other : pick (savedType (typeOf line)) (loaded.Refused 15, s) (loaded.Refused 1, s) ≡ firstTaken line s
+  module _ (k : LineKind) (e : k ≡ kindOf (typeOf line)) where
+    first-as : (known : LineKind) → k ≡ known → firstAs known line s ≡ firstTaken line s
     unfolding firstTaken
-    other = sym (passed (eqb (typeOf line) 16) (begun (openedBy line s)) (pick (savedType (typeOf line)) (loaded.Refused 15, s) (loaded.Refused 1, s)) (ne-eqb (typeOf line) 16 (λ q. d (e ∙ q))))
+    first-as known z = ap (λ (q : LineKind). firstAs q line s) (sym z ∙ e)
 
-    pub first-below : byte < 80 → (loaded.Refused 1, s) ≡ firstTaken line s
-    first-below h = sym (passed (savedType (typeOf line)) (loaded.Refused 15, s) (loaded.Refused 1, s) (fails (savedType (typeOf line)) (λ t. absurd (omega (arith, e, between-out 80 95 (typeOf line) t .0))))) ∙ other
+    pub first-opening : k ≡ kind.Opening → (r : Loaded) (x : List ℕ) → (r, x) ≡ begun (openedBy line s) → (r, x) ≡ firstTaken line s
+    unfolding firstAs
+    first-opening z r x g = g ∙ first-as kind.Opening z
 
-    pub first-above : 95 < byte → (loaded.Refused 1, s) ≡ firstTaken line s
-    first-above h = sym (passed (savedType (typeOf line)) (loaded.Refused 15, s) (loaded.Refused 1, s) (fails (savedType (typeOf line)) (λ t. absurd (omega (arith, e, between-out 80 95 (typeOf line) t .1))))) ∙ other
+    pub first-saved : k ≡ kind.Saved → (loaded.Refused 15, s) ≡ firstTaken line s
+    unfolding firstAs
+    first-saved z = first-as kind.Saved z
 
-    pub first-saved : 80 ≤ byte → byte ≤ 95 → (loaded.Refused 15, s) ≡ firstTaken line s
-    first-saved l h = sym (picked (savedType (typeOf line)) (loaded.Refused 15, s) (loaded.Refused 1, s) (between-in 80 95 (typeOf line) (omega (arith, e)) (omega (arith, e)))) ∙ other
+    pub first-other : (k ≡ kind.Opening → ⊥) → (k ≡ kind.Saved → ⊥) → (loaded.Refused 1, s) ≡ firstTaken line s
+    first-other o v = first-cases (λ q taken. (q ≡ kind.Opening → ⊥) → (q ≡ kind.Saved → ⊥) → (loaded.Refused 1, s) ≡ taken) (λ o _. absurd (o refl)) (λ _ v. absurd (v refl)) (λ q _ _. refl) k o v ∙ first-as k refl
 
 -- the next line, and the end
 module _ (s : List ℕ) (u : Bool) (e : u ≡ underLoad s) where

@@ -17,6 +17,7 @@ use Rattle.line_read.specs.Named.{openingRead}
 use Rattle.line_read.specs.declared.Row.{Row}
 use Rattle.line_read.specs.SavedNamed.{clockRead, closingRead, lastRead, rowRead, totalRead}
 use Rattle.line_decode.specs.Decoding.{bytesOf, typeOf}
+use Rattle.line_decode.specs.LineKinds.{kindOf}
 use Rattle.call_checked.specs.declared.Opened.{Opened}
 use Rattle.call_checked.specs.declared.Opened.the-variants as opened
 use Rattle.call_checked.specs.Called.{headerRead, openedAs, openedBy}
@@ -27,7 +28,8 @@ use Rattle.form_take.specs.Taking.{clockTaken, closed, finished, lastTaken, row
 use Rattle.form_take.proofs.Words.{passed, picked}
 use Rattle.form_load.specs.declared.Next.{Next}
 use Rattle.form_load.specs.declared.Next.the-variants as next
-use Rattle.form_load.specs.Loading.{begun, firstTaken, loadEnded, loadedBy, nextIn, savedType, takenAs, underLoad, waits}
+use Rattle.form_load.specs.Loading.{begun, firstTaken, loadEnded, loadedBy, nextIn, takenAs, underLoad, waits}
+use Rattle.form_load.proofs.Loads.{first-cases}
 use Rattle.form_load.proofs.Nexts.{load-waits, next-none}
 
 -- under load: a wrong line gets 15 and leaves zeros, a table is one by the rules
@@ -110,12 +112,7 @@ module _ (line s : List ℕ) where
 
   first-left : Left s (firstTaken line s)
   unfolding firstTaken
-  first-left = by (eqb (typeOf line) 16) (savedType (typeOf line)) (begun (openedBy line s)) begun-left
-    where
-      by : (b c : Bool) (p : Loaded × List ℕ) → Left s p → Left s (pick b p (pick c (loaded.Refused 15, s) (loaded.Refused 1, s)))
-      by true c p h = h
-      by false true p h = refl
-      by false false p h = refl
+  first-left = first-cases line s (λ _ taken. Left s taken) begun-left refl (λ _. refl) (kindOf (typeOf line))
 
   under-kept : underLoad s ≡ true → Kept s (loadedBy line s)
   unfolding loadedBy

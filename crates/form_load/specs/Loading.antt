@@ -9,8 +9,10 @@ use Rattle.meaning.specs.Table.{greatestKind}
 use Rattle.words_layout.specs.Layout.{capacityIn, countIn, holdsTable, objectsIn, ownIn, sizeIn, spaceFor, tableMark}
 use Rattle.table_rules.specs.TableTests.{kindsIn, sizesKept}
 use Rattle.line_hex.specs.Choice.{pick}
-use Rattle.line_read.specs.Types.{clock, closing, opening}
 use Rattle.line_decode.specs.Decoding.{bytesOf, typeOf}
+use Rattle.line_decode.specs.LineKinds.{kindOf}
+use Rattle.line_decode.specs.declared.LineKind.{LineKind}
+use Rattle.line_decode.specs.declared.LineKind.the-variants as kind
 use Rattle.form_write.specs.declared.Sought.{Sought}
 use Rattle.form_write.specs.declared.Sought.the-variants as sought
 use Rattle.form_write.specs.Seeking.{counterAt, otherAt}
@@ -77,15 +79,19 @@ unfoldable pub begun : Opened × List ℕ → Loaded × List ℕ
 begun (opened.Refused number, words) = (loaded.Refused number, words)
 begun (opened.Fresh, words) = (loaded.Taken, set words 6 1)
 
--- "Lines of type `50` to `5f`": saved lines.
-abbrev pub savedType : ℕ → Bool
-savedType type = between (clock .typeByte) (closing .typeByte) type
+-- "or a saved line comes when no load is under way (15), nothing is written"; any other line is no opening (1).
+unfoldable pub firstAs : LineKind → List ℕ → List ℕ → Loaded × List ℕ
+firstAs kind.Opening line words = begun (openedBy line words)
+firstAs kind.Operation line words = (loaded.Refused 1, words)
+firstAs kind.Issue line words = (loaded.Refused 1, words)
+firstAs kind.Settling line words = (loaded.Refused 1, words)
+firstAs kind.Question line words = (loaded.Refused 1, words)
+firstAs kind.Printing line words = (loaded.Refused 1, words)
+firstAs kind.Saved line words = (loaded.Refused 15, words)
+firstAs kind.Unknown line words = (loaded.Refused 1, words)
 
--- "or a saved line comes when no load is under way (15), nothing is written"; any other type is no opening's (1).
 unfoldable pub firstTaken : List ℕ → List ℕ → Loaded × List ℕ
-firstTaken line words =
-    pick (eqb (typeOf line) (opening .typeByte)) (begun (openedBy line words))
-    (pick (savedType (typeOf line)) (loaded.Refused 15, words) (loaded.Refused 1, words))
+firstTaken line words = firstAs (kindOf (typeOf line)) line words
 
 -- The next line of a form to a space.
 unfoldable pub loadedBy : List ℕ → List ℕ → Loaded × List ℕ

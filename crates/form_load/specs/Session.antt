@@ -18,6 +18,7 @@ use Rattle.line_read.specs.Named.{openingRead}
 use Rattle.line_read.specs.Types.{isOf, lineRead}
 use Rattle.line_read.specs.SavedNamed.{clockRead, closingRead, lastRead, rowRead, totalRead}
 use Rattle.line_decode.specs.Decoding.{bytesOf, typeOf}
+use Rattle.line_decode.specs.LineKinds.{kindOf}
 use Rattle.line_decode.specs.Text.{characters, lineSaying}
 use Rattle.call_checked.specs.Called.{headerRead, openedAs, openedBy}
 use Rattle.form_write.specs.Seeking.{counterAt, otherAt}
@@ -28,7 +29,7 @@ use Rattle.words_layout.specs.Layout.{holdsTable, isSpelt, rewritten, spaceFor,
 use Rattle.words_layout.specs.Words.{complement, ofComplement}
 use Rattle.form_row.specs.Joining.{joined, joins, lastRow, rowSaid}
 use Rattle.form_take.specs.Taking.{clockTaken, closed, finished, lastTaken, rowOrClosing, rowTaken, spoilt, took, totalTaken}
-use Rattle.form_load.specs.Loading.{begun, behindLasts, firstTaken, headLoads, loadWaits, loadEnded, loadedAll, loadedBy, nextAfter, nextIn, takenAs, underLoad, waits}
+use Rattle.form_load.specs.Loading.{begun, behindLasts, firstAs, firstTaken, headLoads, loadWaits, loadEnded, loadedAll, loadedBy, nextAfter, nextIn, takenAs, underLoad, waits}
 use Rattle.form_take.specs.declared.Loaded.{Loaded}
 use Rattle.form_take.specs.declared.Loaded.the-variants as loaded
 
@@ -75,7 +76,7 @@ Right words cases = map (λ (c : Case). seen (loadedBy (c .given) words)) cases 
 
 -- Which definitions are computed with; a group has no meaning of its own.
 unfoldable pub lineWords : ℕ
-unfolding pairOf pairs justLf isLine valueOf isDigit numberFrom padded entries startsWith hasShape fieldsRead lengthOf read openingRead isOf lineRead clockRead lastRead totalRead rowRead closingRead bytesOf typeOf characters lineSaying
+unfolding pairOf pairs justLf isLine valueOf isDigit numberFrom padded entries startsWith hasShape fieldsRead lengthOf read openingRead isOf lineRead clockRead lastRead totalRead rowRead closingRead bytesOf typeOf kindOf characters lineSaying
 lineWords = 0
 
 unfoldable pub wordWords : ℕ
@@ -83,7 +84,7 @@ unfolding sizesKept contentKept numberKept unsettledKept tagKept rowKept follows
 wordWords = 0
 
 unfoldable pub loadWords : ℕ
-unfolding openedAs headerRead openedBy otherAt counterAt spoilt took clockTaken lastTaken totalTaken rowSaid lastRow joins joined rowTaken finished closed rowOrClosing behindLasts nextAfter nextIn waits headLoads loadWaits underLoad takenAs begun firstTaken loadedBy loadEnded loadedAll seen
+unfolding openedAs headerRead openedBy otherAt counterAt spoilt took clockTaken lastTaken totalTaken rowSaid lastRow joins joined rowTaken finished closed rowOrClosing behindLasts nextAfter nextIn waits headLoads loadWaits underLoad takenAs begun firstAs firstTaken loadedBy loadEnded loadedAll seen
 loadWords = 0
 
 -- The last lines of 01's session.

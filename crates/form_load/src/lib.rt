@@ -11,6 +11,7 @@ ghost use Rattle.form_load.specs.Loading.{begun, behindLasts, firstTaken
 use call_checked::Opened;
 use form_take::Loaded;
 use form_write::Sought;
+use line_decode::LineKind;
 use refusal_number::MISSHAPEN;
 use refusal_number::WRONG;
 use words_layout::CAPACITY_AT;
@@ -174,17 +175,12 @@ fn begin(space: &mut [u32], line: &[u8]) -> Loaded
 fn first_line(space: &mut [u32], line: &[u8]) -> Loaded
     ensures { λ r. ⌜ (r, now (space .exit)) ≡ firstTaken (now (line .entry)) (now (space .entry)) ⌝ }
 {
-    let byte = line_decode::type_of(line);
-    if byte == line_read::OPENING {
-        return begin(space, line);
+    let kind = line_decode::kind_of(line);
+    match kind {
+        LineKind::Opening => begin(space, line),
+        LineKind::Saved => Loaded::Refused(WRONG),
+        _ => Loaded::Refused(MISSHAPEN),
     }
-    if byte < line_read::CLOCK {
-        return Loaded::Refused(MISSHAPEN);
-    }
-    if line_read::CLOSING < byte {
-        return Loaded::Refused(MISSHAPEN);
-    }
-    Loaded::Refused(WRONG)
 }
 
 // The next line of a form to a space: taken, refused with its number, or the one that makes the space a table.

@@ -1,5 +1,6 @@
 -- The station program's answer to a line of each type is what the call of that type answers.
 use mathlib.Core.Path.{_≡_, refl, sym, ap, _∙_}
+use mathlib.Core.Logic.{_≢_}
 use mathlib.Core.Bool.{Bool, true, false, cond, false≢true}
 use mathlib.Core.List.{List, [], _∷_}
 use Prim.Native.Nat.{ℕ, _≤_}
@@ -27,7 +28,6 @@ use Rattle.line_shape.specs.Shapes.{written}
 use Rattle.line_put.specs.Writing.{lineBytes, lineWritten}
 use Rattle.line_read.specs.Types.{issue, opening, operation, printing, question, settling, longestFrame}
 use Rattle.line_read.specs.Named.{issueRead, openingRead, operationRead, printingRead, questionRead, settlingRead}
-use Rattle.line_decode.specs.Decoding.{bytesOf}
 use Rattle.call_question.specs.AnswerBytes.{listBytes, refusalBytes, replyBytes}
 use Rattle.call_checked.specs.declared.Issued.the-variants as issued
 use Rattle.call_checked.specs.declared.Opened.the-variants as opened
@@ -35,51 +35,55 @@ use Rattle.call_checked.specs.declared.Received.the-variants as received
 use Rattle.call_checked.specs.declared.Settled.the-variants as settled
 use Rattle.call_checked.specs.Called.{frameBytes, frameOf, framedAs, headerRead, issuedAs, issuedOn, localOf, openedAs, openedBy, receivedAs, receivedOn, repliedOn, settledAs, settledOn}
 use Rattle.call_answer.specs.Answering.{answerOn, changing, issueAnswer, issuedBytes, openedBytes, questionAnswer, receivedBytes, secondOpening, settledBytes, frameRoom}
-use Rattle.line_decode.specs.Decoding.{typeOf}
+use Rattle.line_decode.specs.Decoding.{bytesOf, typeOf}
+use Rattle.line_decode.specs.LineKinds.{kindOf}
+use Rattle.line_decode.specs.declared.LineKind.{LineKind}
+use Rattle.line_decode.specs.declared.LineKind.the-variants as kind
+use Rattle.line_decode.proofs.KindOfType.{shaped-type}
 use Rattle.form_write.specs.Forms.{savedForm}
 use Rattle.form_save.specs.declared.Saved.{Saved}
 use Rattle.form_save.specs.declared.Saved.the-variants as saved
 use Rattle.form_save.specs.Saving.{savedBy}
 use Rattle.calls.specs.declared.Answered.{Answered}
 use Rattle.calls.specs.declared.Answered.the-variants as answered
-use Rattle.calls.specs.Answers.{answerOf, answeredBy, linesFor, longestAnswer, printedAt}
+use Rattle.calls.specs.Answers.{answerOf, answeredBy, firstAnswer, linesFor, longestAnswer, printedAt}
 use Rattle.calls.specs.Calls as calls
 use Rattle.calls.specs.Calls.{receivedBy, repliedBy, settledBy}
-use Rattle.calls.proofs.Answering.{answer-formed, form-end, form-line, form-refused, one-line}
+use Rattle.calls.proofs.Answering.{answer-formed, first-cases, form-end, form-line, form-refused, one-line}
 use Rattle.law_agreement.specs.Conditions.{isLineOf}
 use Rattle.law_agreement.specs.Lines.{ByType, isDone, issuedAnswer, repliedAnswer, savedAnswer}
 use Rattle.law_agreement.proofs.Shaping.{printing-shaped}
 use Rattle.law_agreement.proofs.Lines.{done-is-done, frame-room, zeros-frame}
 
 module _ (line words : List ℕ) where
-  -- before an accepted opening, and at a table
-  module _ (type : ℕ) (z : typeOf line ≡ type) where
-    pub by-table : answerOf line words ≡ pick (holdsTable words) (answerOn type line words) (pick (eqb type 16) (openedBytes (openedBy line words .0), openedBy line words .1) (refusalBytes 14, words))
-    unfolding answerOf
-    by-table = rw z refl
+  -- at a table, and before an accepted opening
+  pub by-table : (k : LineKind) → kindOf (typeOf line) ≡ k → answerOf line words ≡ pick (holdsTable words) (answerOn k line words) (firstAnswer k line words)
+  unfolding answerOf
+  by-table k z = rw z refl
 
   told-frame : typeOf line ≡ operation .typeByte → answerOf line words ≡ changing receivedBytes (receivedBy line words)
-  unfolding answerOn receivedBy receivedBytes
-  told-frame z = by-table 32 z ∙ by (holdsTable words)
+  unfolding answerOn firstAnswer kindOf receivedBy receivedBytes
+  told-frame z = by-table kind.Operation (rw z refl) ∙ by (holdsTable words)
     where
       by : (b : Bool) → pick {A = List ℕ × List ℕ} b (receivedBytes (receivedOn line words .0), receivedOn line words .1) (refusalBytes 14, words) ≡ changing receivedBytes (pick b (receivedOn line words) (received.Refused 14, words))
       by true = refl
       by false = refl
 
   told-settling : typeOf line ≡ settling .typeByte → answerOf line words ≡ changing settledBytes (settledBy line words)
-  unfolding answerOn settledBy settledBytes
-  told-settling z = by-table 48 z ∙ by (holdsTable words)
+  unfolding answerOn firstAnswer kindOf settledBy settledBytes
+  told-settling z = by-table kind.Settling (rw z refl) ∙ by (holdsTable words)
     where
       by : (b : Bool) → pick {A = List ℕ × List ℕ} b (settledBytes (settledOn line words .0), settledOn line words .1) (refusalBytes 14, words) ≡ changing settledBytes (pick b (settledOn line words) (settled.Refused 14, words))
       by true = refl
       by false = refl
 
   told-opening : typeOf line ≡ opening .typeByte → holdsTable words ≡ false → answerOf line words ≡ changing openedBytes (openedBy line words)
-  told-opening z f = by-table 16 z ∙ rw f refl
+  unfolding firstAnswer kindOf
+  told-opening z f = by-table kind.Opening (rw z refl) ∙ rw f refl
 
   told-second : typeOf line ≡ opening .typeByte → holdsTable words ≡ true → answerOf line words ≡ (secondOpening line, words)
-  unfolding answerOn
-  told-second z t = by-table 16 z ∙ rw t refl
+  unfolding answerOn kindOf
+  told-second z t = by-table kind.Opening (rw z refl) ∙ rw t refl
 
 -- a reply, as it stands in a list space and as it is told
 reply-told : (r : meaning.Reply) (out : List ℕ) → replyBytes r ≡ repliedAnswer (replied r out)
@@ -155,6 +159,10 @@ told-whole line words m h = let read : printingRead (bytesOf line) ≡ true = pr
 
 -- saving, as it stands in a line space and as it is told
 module _ (line words : List ℕ) (t : typeOf line ≡ printing .typeByte) where
+  prints : kindOf (typeOf line) ≡ kind.Printing
+  unfolding kindOf
+  prints = rw t refl
+
   module _ (place : ℕ) (out : List ℕ) (long : length out ≡ longestAnswer) where
     abbrev given : Saved × List ℕ
     given = savedBy line words place out
@@ -163,44 +171,48 @@ module _ (line words : List ℕ) (t : typeOf line ≡ printing .typeByte) where
     room = omega (arith, long)
 
     at-place : (a : Answered) (y : List ℕ) → (a, y) ≡ printedAt (linesFor line words) place out → answeredBy line place words out ≡ (a, (words, y))
-    at-place a y e = sym (answer-formed line words out (typeOf line) refl t place long a y e)
+    at-place a y e = sym (answer-formed line words out (kindOf (typeOf line)) refl prints place long a y e)
 
     told-saved : (q : Saved) → given .0 ≡ q → answeredBy line place words out ≡ savedAnswer words place (q, given .1)
     unfolding savedAnswer
     told-saved (saved.Refused number) h =
         let told = printedAt (refusalBytes number ∷ []) place (given .1) in
-        at-place (told .0) (told .1) (form-refused line words out t room place (given .0) (given .1) refl number h (told .0) (told .1) refl)
-    told-saved (saved.Line n) h = at-place (answered.Line n) (given .1) (form-line line words out t room place (given .0) (given .1) refl n h)
-    told-saved saved.End h = at-place answered.End (given .1) (form-end line words out t room place (given .0) (given .1) refl h)
+        at-place (told .0) (told .1) (form-refused line words out prints room place (given .0) (given .1) refl number h (told .0) (told .1) refl)
+    told-saved (saved.Line n) h = at-place (answered.Line n) (given .1) (form-line line words out prints room place (given .0) (given .1) refl n h)
+    told-saved saved.End h = at-place answered.End (given .1) (form-end line words out prints room place (given .0) (given .1) refl h)
 
   told-form : (place : ℕ) (out : List ℕ) → length out ≡ longestAnswer → answeredBy line place words out ≡ savedAnswer words place (savedBy line words place out)
   told-form place out long = told-saved place out long (savedBy line words place out .0) refl
 
   told-no-form : holdsTable words ≡ false → linesFor line words ≡ refusalBytes 14 ∷ []
-  unfolding linesFor
-  told-no-form f = rw (by-table line words 96 t, f) refl
+  unfolding linesFor firstAnswer
+  told-no-form f = rw (by-table line words kind.Printing prints, f) refl
 
   told-misshapen : isLineOf printing 0 line ≡ false → holdsTable words ≡ true → linesFor line words ≡ refusalBytes 1 ∷ []
   unfolding linesFor answerOn
-  told-misshapen m h = let unread : printingRead (bytesOf line) ≡ false = printing-shaped line ∙ m in rw (by-table line words 96 t, h, unread) refl
+  told-misshapen m h = let unread : printingRead (bytesOf line) ≡ false = printing-shaped line ∙ m in rw (by-table line words kind.Printing prints, h, unread) refl
 
 module _ (line words : List ℕ) where
   told-question : typeOf line ≡ question .typeByte → answerOf line words ≡ (repliedAnswer (repliedBy line words (zeros mostRows)), words)
-  unfolding answerOn repliedBy repliedAnswer
-  told-question z = by-table line words 64 z ∙ by (holdsTable words)
+  unfolding answerOn firstAnswer kindOf repliedBy repliedAnswer
+  told-question z = by-table line words kind.Question (rw z refl) ∙ by (holdsTable words)
     where
       by : (b : Bool) → pick {A = List ℕ × List ℕ} b (questionAnswer line words, words) (refusalBytes 14, words) ≡ (repliedAnswer (pick b (repliedOn line words (zeros mostRows)) (reply.Refused 14, zeros mostRows)), words)
       by true = ap (λ (l : List ℕ). (l, words)) (question-told line words)
       by false = refl
 
   told-issue : typeOf line ≡ issue .typeByte → characters (answerOf line words) ≡ issuedAnswer (calls.issuedBy line words (zeros longestFrame))
-  unfolding answerOn calls.issuedBy issuedAnswer
-  told-issue z = ap characters (by-table line words 33 z) ∙ by (holdsTable words) (issue-told line words)
+  unfolding answerOn firstAnswer kindOf calls.issuedBy issuedAnswer
+  told-issue z = ap characters (by-table line words kind.Issue (rw z refl)) ∙ by (holdsTable words) (issue-told line words)
     where
       by : (b : Bool) → (b ≡ true → characters (issueAnswer line words) ≡ issuedAnswer (issuedOn line words (zeros longestFrame))) →
           characters (pick b (issueAnswer line words) (refusalBytes 14, words)) ≡ issuedAnswer (pick b (issuedOn line words (zeros longestFrame)) (issued.Refused 14, (words, zeros longestFrame)))
       by true f = f refl
       by false f = refl
+
+  told-one-line : typeOf line ≢ printing .typeByte → linesFor line words ≡ answerOf line words .0 ∷ []
+  unfolding printingRead
+  told-one-line n = one-line line words (λ read. n (shaped-type printing 0 line read))
 
   -- so a refusal number is given to a line exactly when its call gives it (`exactly-when`), and to no other
   pub by-type : ByType line words
@@ -211,7 +223,7 @@ module _ (line words : List ℕ) where
     asked = told-question;
     opened = told-opening line words;
     second = told-second line words;
-    one-line = λ n. one-line line words [] (typeOf line) refl n;
+    one-line = told-one-line;
     form = told-form line words;
     whole-form = told-whole line words;
     no-form = told-no-form line words;
@@ -243,39 +255,47 @@ module _ (line words : List ℕ) where
   quiet-opening (meaning.Opening.refused number) f = refl
   quiet-opening (meaning.Opening.fresh table) f = absurd (false≢true (sym f ∙ done-is-done))
 
-  quiet-table : Quiet (answerOn (typeOf line) line words)
+  quiet-table : (k : LineKind) → Quiet (answerOn k line words)
   unfolding answerOn receivedOn issueAnswer settledOn
-  quiet-table = by (eqb (typeOf line) 32) (eqb (typeOf line) 33) (eqb (typeOf line) 48) (eqb (typeOf line) 64) (eqb (typeOf line) 16)
+  quiet-table kind.Opening = λ _. refl
+  quiet-table kind.Operation = by (operationRead (bytesOf line) .ok)
     where
-      frames : (b : Bool) → Quiet (changing receivedBytes (pick b (receivedAs words (meaning.receive (tableOf words) (frameOf (operationRead (bytesOf line))))) (received.Refused 1, words)))
-      frames true = quiet-frame (meaning.receive (tableOf words) (frameOf (operationRead (bytesOf line))))
-      frames false = λ _. refl
+      by : (b : Bool) → Quiet (changing receivedBytes (pick b (receivedAs words (meaning.receive (tableOf words) (frameOf (operationRead (bytesOf line))))) (received.Refused 1, words)))
+      by true = quiet-frame (meaning.receive (tableOf words) (frameOf (operationRead (bytesOf line))))
+      by false = λ _. refl
+  quiet-table kind.Issue = by (issueRead (bytesOf line) .ok)
+    where
+      by : (b : Bool) → Quiet (pick b (issuedBytes words (meaning.issue (tableOf words) (localOf (issueRead (bytesOf line))))) (refusalBytes 1, words))
+      by true = quiet-issue (meaning.issue (tableOf words) (localOf (issueRead (bytesOf line))))
+      by false = λ _. refl
+  quiet-table kind.Settling = by (settlingRead (bytesOf line) .ok)
+    where
+      by : (b : Bool) → Quiet (changing settledBytes (pick b (settledAs words (meaning.settle (tableOf words) (settlingRead (bytesOf line) .limit))) (settled.Refused 1, words)))
+      by true = quiet-settling (meaning.settle (tableOf words) (settlingRead (bytesOf line) .limit))
+      by false = λ _. refl
+  quiet-table kind.Question = λ _. refl
+  quiet-table kind.Printing = λ _. refl
+  quiet-table kind.Saved = λ _. refl
+  quiet-table kind.Unknown = λ _. refl
 
-      locals : (b : Bool) → Quiet (pick b (issuedBytes words (meaning.issue (tableOf words) (localOf (issueRead (bytesOf line))))) (refusalBytes 1, words))
-      locals true = quiet-issue (meaning.issue (tableOf words) (localOf (issueRead (bytesOf line))))
-      locals false = λ _. refl
-
-      settlings : (b : Bool) → Quiet (changing settledBytes (pick b (settledAs words (meaning.settle (tableOf words) (settlingRead (bytesOf line) .limit))) (settled.Refused 1, words)))
-      settlings true = quiet-settling (meaning.settle (tableOf words) (settlingRead (bytesOf line) .limit))
-      settlings false = λ _. refl
-
-      by : (a b c d e : Bool) → Quiet (pick a (changing receivedBytes (receivedOn line words)) (pick b (issueAnswer line words) (pick c (changing settledBytes (settledOn line words)) (pick d (questionAnswer line words, words) (pick e (secondOpening line, words) (refusalBytes 1, words))))))
-      by true b c d e = frames (operationRead (bytesOf line) .ok)
-      by false true c d e = locals (issueRead (bytesOf line) .ok)
-      by false false true d e = settlings (settlingRead (bytesOf line) .ok)
-      by false false false true e = λ _. refl
-      by false false false false true = λ _. refl
-      by false false false false false = λ _. refl
-
-  pub refused-changes-nothing : isDone (answerOf line words .0) ≡ false → answerOf line words .1 ≡ words
-  unfolding answerOf openedBy
-  refused-changes-nothing = by (holdsTable words) (eqb (typeOf line) 16) (openingRead (bytesOf line) .ok)
+  quiet-opened : Quiet (changing openedBytes (openedBy line words))
+  unfolding openedBy
+  quiet-opened = by (openingRead (bytesOf line) .ok)
     where
       opens : meaning.Opening
       opens = meaning.openTable (length words) (spaceFor (headerRead (bytesOf line) .size) (headerRead (bytesOf line) .capacity)) (headerRead (bytesOf line))
 
-      by : (b c d : Bool) → Quiet (pick b (answerOn (typeOf line) line words) (pick c (changing openedBytes (pick d (openedAs words opens) (opened.Refused 1, words))) (refusalBytes 14, words)))
-      by true c d = quiet-table
-      by false true true = quiet-opening opens
-      by false true false = λ _. refl
-      by false false d = λ _. refl
+      by : (b : Bool) → Quiet (changing openedBytes (pick b (openedAs words opens) (opened.Refused 1, words)))
+      by true = quiet-opening opens
+      by false = λ _. refl
+
+  pub refused-changes-nothing : isDone (answerOf line words .0) ≡ false → answerOf line words .1 ≡ words
+  unfolding answerOf
+  refused-changes-nothing = by (holdsTable words)
+    where
+      k : LineKind
+      k = kindOf (typeOf line)
+
+      by : (b : Bool) → Quiet (pick b (answerOn k line words) (firstAnswer k line words))
+      by true = quiet-table k
+      by false = first-cases line words (λ _ answer. Quiet answer) quiet-opened (λ _ _. refl) k

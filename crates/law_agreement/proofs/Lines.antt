@@ -34,7 +34,6 @@ use Rattle.line_put.proofs.Whole.{length-hex-line}
 use Rattle.line_read.specs.Types.{operation, question, refused, longestFrame}
 use Rattle.line_read.specs.Named.{issueRead, openingRead, operationRead, questionRead, settlingRead}
 use Rattle.line_print.specs.Printed.{printed}
-use Rattle.line_decode.specs.Decoding.{bytesOf}
 use Rattle.call_question.specs.AnswerBytes.{listBytes, refusalBytes, replyBytes}
 use Rattle.line_read.proofs.Lengths.{line-length}
 use Rattle.call_question.proofs.Told.{chain, never-long}
@@ -49,12 +48,15 @@ use Rattle.call_checked.specs.declared.Opened.the-variants as opened
 use Rattle.call_checked.specs.Called.{frameBytes, frameOf, headerRead, issuedOn, localOf, openedBy, receivedAs, receivedOn, settledOn}
 use Rattle.call_answer.specs.Answering.{answerOn, doneBytes, issueAnswer, issuedBytes, openedBytes, questionAnswer, receivedBytes, secondOpening, settledBytes, answeredAfter, frameRoom}
 use Rattle.call_answer.proofs.Framing.{issue-framed, issue-refused}
-use Rattle.line_decode.specs.Decoding.{typeOf}
-use Rattle.calls.specs.Answers.{answerOf}
+use Rattle.line_decode.specs.Decoding.{bytesOf, typeOf}
+use Rattle.line_decode.specs.LineKinds.{kindOf}
+use Rattle.line_decode.specs.declared.LineKind.{LineKind}
+use Rattle.line_decode.specs.declared.LineKind.the-variants as kind
+use Rattle.calls.specs.Answers.{answerOf, firstAnswer}
 use Rattle.calls.specs.Calls as calls
 use Rattle.calls.specs.Calls.{receivedBy, settledBy}
 use Rattle.law_agreement.specs.Station.{Call, receives, issues, settles, wordsAfter, wordsAfterAll, frameFits, eventsOf, eventsOfAll}
-use Rattle.law_agreement.specs.Lines.{OpenedBy, acceptedBy, acceptedByAll, callsOf, callsOfAll, isDone, linesAfter, meantAnswer, offeredBy}
+use Rattle.law_agreement.specs.Lines.{OpenedBy, acceptedBy, acceptedByAll, callsAs, callsOf, callsOfAll, isDone, linesAfter, meantAnswer, offeredAs, offeredBy}
 use Rattle.call_checked.proofs.Receiving.{picked}
 use Rattle.law_agreement.proofs.Calling.{Holds, after-both, calls-hold, holds-reached, opening-in-range, reply-agrees, reply-meant, rows-agree}
 
@@ -80,7 +82,7 @@ unfolding zeros
 zeros-lent = refl
 
 module _ (line words : List ℕ) (held : holdsTable words ≡ true) where
-  pub on-table : answerOf line words ≡ answerOn (typeOf line) line words
+  pub on-table : answerOf line words ≡ answerOn (kindOf (typeOf line)) line words
   unfolding answerOf
   on-table = rw held refl
 
@@ -113,18 +115,18 @@ module _ (line words : List ℕ) (held : holdsTable words ≡ true) where
 
   -- a line leaves what the call that it is leaves
   pub line-words : answerOf line words .1 ≡ wordsAfterAll (callsOf line) words
-  unfolding answerOn callsOf wordsAfter wordsAfterAll receivedBy calls.issuedBy settledBy
-  line-words = ap (λ (q : List ℕ × List ℕ). q .1) on-table ∙ by (eqb (typeOf line) 32) (eqb (typeOf line) 33) (eqb (typeOf line) 48) (eqb (typeOf line) 64) (eqb (typeOf line) 16)
+  unfolding answerOn callsAs callsOf wordsAfter wordsAfterAll receivedBy calls.issuedBy settledBy
+  line-words = ap (λ (q : List ℕ × List ℕ). q .1) on-table ∙ by (kindOf (typeOf line))
     where
-      by : (a b c d e : Bool) →
-          pick a (receivedBytes (receivedOn line words .0), receivedOn line words .1) (pick b (issueAnswer line words) (pick c (settledBytes (settledOn line words .0), settledOn line words .1) (pick d (questionAnswer line words, words) (pick e (secondOpening line, words) (refusalBytes 1, words))))) .1
-          ≡ wordsAfterAll (pick a (receives line ∷ []) (pick b (issues line (zeros longestFrame) ∷ []) (pick c (settles line ∷ []) []))) words
-      by true b c d e = sym (ap (λ (q : Received × List ℕ). q .1) (picked (holdsTable words) (receivedOn line words) (received.Refused 14, words) held))
-      by false true c d e = issue-words ∙ sym (ap (λ (q : Issued × (List ℕ × List ℕ)). q .1 .0) (picked (holdsTable words) (issuedOn line words (zeros longestFrame)) (issued.Refused 14, (words, zeros longestFrame)) held))
-      by false false true d e = sym (ap (λ (q : Settled × List ℕ). q .1) (picked (holdsTable words) (settledOn line words) (settled.Refused 14, words) held))
-      by false false false true e = refl
-      by false false false false true = refl
-      by false false false false false = refl
+      by : (k : LineKind) → answerOn k line words .1 ≡ wordsAfterAll (callsAs k line) words
+      by kind.Opening = refl
+      by kind.Operation = sym (ap (λ (q : Received × List ℕ). q .1) (picked (holdsTable words) (receivedOn line words) (received.Refused 14, words) held))
+      by kind.Issue = issue-words ∙ sym (ap (λ (q : Issued × (List ℕ × List ℕ)). q .1 .0) (picked (holdsTable words) (issuedOn line words (zeros longestFrame)) (issued.Refused 14, (words, zeros longestFrame)) held))
+      by kind.Settling = sym (ap (λ (q : Settled × List ℕ). q .1) (picked (holdsTable words) (settledOn line words) (settled.Refused 14, words) held))
+      by kind.Question = refl
+      by kind.Printing = refl
+      by kind.Saved = refl
+      by kind.Unknown = refl
 
 size-few : (words : List ℕ) → Checked words → tableOf words .header .size ≤ greatestSize
 unfolding tableOf
@@ -132,7 +134,7 @@ size-few words K = K .few
 
 -- a question line at a table
 pub question-on : (line words : List ℕ) → holdsTable words ≡ true → typeOf line ≡ question .typeByte → answerOf line words ≡ (questionAnswer line words, words)
-unfolding answerOn
+unfolding answerOn kindOf
 question-on line words held type = on-table line words held ∙ rw type refl
 
 -- every frame that is issued has room
@@ -226,21 +228,20 @@ module _ (line words : List ℕ) (s : Station) (H : Holds words s) where
 
   -- the operation of a line that was answered `00`, and no other
   pub line-accepted : afterAll (eventsOfAll (callsOf line) words) s .accepted ≡ acceptedBy line words ++ s .accepted
-  unfolding answerOn callsOf acceptedBy offeredBy afterAll eventsOfAll
+  unfolding answerOn callsAs callsOf acceptedBy offeredAs offeredBy afterAll eventsOfAll
   line-accepted =
-      by (eqb (typeOf line) 32) (eqb (typeOf line) 33) (eqb (typeOf line) 48) (eqb (typeOf line) 64) (eqb (typeOf line) 16)
+      by (kindOf (typeOf line))
       ∙ ap (λ (q : List ℕ × List ℕ). pick (isDone (q .0)) (offeredBy line words) [] ++ s .accepted) (sym (on-table line words (H .held)))
     where
-      by : (a b c d e : Bool) →
-          afterAll (eventsOfAll (pick a (receives line ∷ []) (pick b (issues line (zeros longestFrame) ∷ []) (pick c (settles line ∷ []) []))) words) s .accepted
-          ≡ pick (isDone (pick a (receivedBytes (receivedOn line words .0), receivedOn line words .1) (pick b (issueAnswer line words) (pick c (settledBytes (settledOn line words .0), settledOn line words .1) (pick d (questionAnswer line words, words) (pick e (secondOpening line, words) (refusalBytes 1, words))))) .0))
-          (pick a (frame .operation ∷ []) (pick b (issuedBy (tableOf words) local ∷ []) [])) [] ++ s .accepted
-      by true b c d e = one-event (receives line) ∙ frame-accepted
-      by false true c d e = one-event (issues line (zeros longestFrame)) ∙ issue-accepted
-      by false false true d e = one-event (settles line) ∙ settle-accepted ∙ none-offered (isDone (settledBytes (settledOn line words .0)))
-      by false false false true e = none-offered (isDone (questionAnswer line words))
-      by false false false false true = none-offered (isDone (secondOpening line))
-      by false false false false false = none-offered (isDone (refusalBytes 1))
+      by : (k : LineKind) → afterAll (eventsOfAll (callsAs k line) words) s .accepted ≡ pick (isDone (answerOn k line words .0)) (offeredAs k line words) [] ++ s .accepted
+      by kind.Opening = none-offered (isDone (secondOpening line))
+      by kind.Operation = one-event (receives line) ∙ frame-accepted
+      by kind.Issue = one-event (issues line (zeros longestFrame)) ∙ issue-accepted
+      by kind.Settling = one-event (settles line) ∙ settle-accepted ∙ none-offered (isDone (settledBytes (settledOn line words .0)))
+      by kind.Question = none-offered (isDone (questionAnswer line words))
+      by kind.Printing = none-offered (isDone (refusalBytes 1))
+      by kind.Saved = none-offered (isDone (refusalBytes 1))
+      by kind.Unknown = none-offered (isDone (refusalBytes 1))
 
 -- calls and their events, in two parts
 words-both : (first rest : List Call) (words : List ℕ) → wordsAfterAll (first ++ rest) words ≡ wordsAfterAll rest (wordsAfterAll first words)
@@ -299,8 +300,8 @@ module _ (line before words : List ℕ) (O : OpenedBy line before words) where
   by-opened opened.Fresh x e = ap (λ (q : List ℕ × List ℕ). (opened.Fresh, q .1)) e
 
   pub opened-fresh : openedBy line before ≡ (opened.Fresh, words)
-  unfolding answerOf answerOn secondOpening
-  opened-fresh = by (holdsTable before) (subst (λ (type : ℕ). pick (holdsTable before) (answerOn type line before) (pick (eqb type 16) (openedBytes (openedBy line before .0), openedBy line before .1) (refusalBytes 14, before)) ≡ (doneBytes, words)) (O .is-opening) (O .answered))
+  unfolding answerOf answerOn firstAnswer kindOf secondOpening
+  opened-fresh = by (holdsTable before) (subst (λ (type : ℕ). pick (holdsTable before) (answerOn (kindOf type) line before) (firstAnswer (kindOf type) line before) ≡ (doneBytes, words)) (O .is-opening) (O .answered))
     where
       by : (b : Bool) → pick {A = List ℕ × List ℕ} b (secondOpening line, before) (openedBytes (openedBy line before .0), openedBy line before .1) ≡ (doneBytes, words) → openedBy line before ≡ (opened.Fresh, words)
       by true e = absurd (not-done (secondOpening line) before (refusal-not-done (pick (openingRead (bytesOf line) .ok) 13 1)) e)

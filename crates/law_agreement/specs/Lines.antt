@@ -18,13 +18,15 @@ use Rattle.line_hex.specs.Choice.{pick}
 use Rattle.line_hex.specs.Hex.{figureZero, hexLine}
 use Rattle.line_read.specs.Types.{count, flag, issue, lineOf, opening, operation, printing, question, settling, sum, longestFrame}
 use Rattle.line_read.specs.Named.{issueRead, operationRead, questionRead}
-use Rattle.line_decode.specs.Decoding.{bytesOf}
+use Rattle.line_decode.specs.Decoding.{bytesOf, typeOf}
+use Rattle.line_decode.specs.LineKinds.{kindOf}
+use Rattle.line_decode.specs.declared.LineKind.{LineKind}
+use Rattle.line_decode.specs.declared.LineKind.the-variants as kind
 use Rattle.call_question.specs.AnswerBytes.{listBytes, refusalBytes, replyBytes}
 use Rattle.call_checked.specs.declared.Issued.{Issued}
 use Rattle.call_checked.specs.declared.Issued.the-variants as issued
 use Rattle.call_checked.specs.Called.{frameOf, localOf, openedBy}
-use Rattle.call_answer.specs.Answering.{changing, doneBytes, isType, openedBytes, receivedBytes, secondOpening, settledBytes}
-use Rattle.line_decode.specs.Decoding.{typeOf}
+use Rattle.call_answer.specs.Answering.{changing, doneBytes, openedBytes, receivedBytes, secondOpening, settledBytes}
 use Rattle.form_write.specs.Forms.{savedForm}
 use Rattle.form_save.specs.declared.Saved.{Saved}
 use Rattle.form_save.specs.declared.Saved.the-variants as saved
@@ -47,11 +49,19 @@ unfoldable pub isDone : List ℕ → Bool
 isDone [] = false
 isDone (first ∷ rest) = eqb first 0
 
--- The operation that a line offers: that of a `20` frame, or the one that is issued for a `21` line; other lines offer none.
+-- The operation that a line of each kind offers: that of a `20` frame, or the one that is issued for a `21` line; other lines offer none.
+unfoldable pub offeredAs : LineKind → List ℕ → List ℕ → List meant.Operation
+offeredAs kind.Opening line words = []
+offeredAs kind.Operation line words = frameOf (operationRead (bytesOf line)) .operation ∷ []
+offeredAs kind.Issue line words = issuedBy (tableOf words) (localOf (issueRead (bytesOf line))) ∷ []
+offeredAs kind.Settling line words = []
+offeredAs kind.Question line words = []
+offeredAs kind.Printing line words = []
+offeredAs kind.Saved line words = []
+offeredAs kind.Unknown line words = []
+
 unfoldable pub offeredBy : List ℕ → List ℕ → List meant.Operation
-offeredBy line words =
-    isType (typeOf line) operation (frameOf (operationRead (bytesOf line)) .operation ∷ [])
-    (isType (typeOf line) issue (issuedBy (tableOf words) (localOf (issueRead (bytesOf line))) ∷ []) [])
+offeredBy line words = offeredAs (kindOf (typeOf line)) line words
 
 -- It was accepted where the line's answer is no refusal.
 unfoldable pub acceptedBy : List ℕ → List ℕ → List meant.Operation
@@ -75,12 +85,19 @@ meantAnswer header operations line =
     (replyBytes (meaning.meant header operations mostRows (askedFrom (asked .object) (asked .question) (asked .value))))
     (refusalBytes 1)
 
--- The call that a line is at a table: a question, a second opening and a line of unknown type change nothing.
+-- The call that a line of each kind is at a table: a question, a second opening and a line of unknown type change nothing.
+unfoldable pub callsAs : LineKind → List ℕ → List Call
+callsAs kind.Opening line = []
+callsAs kind.Operation line = receives line ∷ []
+callsAs kind.Issue line = issues line (zeros longestFrame) ∷ []
+callsAs kind.Settling line = settles line ∷ []
+callsAs kind.Question line = []
+callsAs kind.Printing line = []
+callsAs kind.Saved line = []
+callsAs kind.Unknown line = []
+
 unfoldable pub callsOf : List ℕ → List Call
-callsOf line =
-    isType (typeOf line) operation (receives line ∷ [])
-    (isType (typeOf line) issue (issues line (zeros longestFrame) ∷ [])
-    (isType (typeOf line) settling (settles line ∷ []) []))
+callsOf line = callsAs (kindOf (typeOf line)) line
 
 unfoldable pub callsOfAll : List (List ℕ) → List Call
 callsOfAll [] = []

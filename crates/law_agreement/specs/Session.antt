@@ -18,6 +18,7 @@ use Rattle.line_put.specs.Writing.{lineBytes, writtenEach}
 use Rattle.line_read.specs.Types.{isOf, lineRead}
 use Rattle.line_read.specs.Named.{issueRead, openingRead, operationRead, questionRead, settlingRead}
 use Rattle.line_decode.specs.Decoding.{bytesOf, typeOf}
+use Rattle.line_decode.specs.LineKinds.{kindOf}
 use Rattle.line_decode.specs.Text.{characters, lineSaying}
 use Rattle.form_lines.specs.FormLines.{closingLine, clockLine, lastLine, openingLine, rowLine, totalLine}
 use Rattle.form_write.specs.Forms.{lastLines, rowLines, savedForm, totalLines}
@@ -28,7 +29,7 @@ use lib.ListN.{length, take}
 use Rattle.calls.specs.declared.Answered.{Answered}
 use Rattle.calls.specs.declared.Answered.the-variants as answered
 use Rattle.line_read.specs.Named.{printingRead}
-use Rattle.calls.specs.Answers.{answerOf, answeredBy, linesFor, longestAnswer, printedAt, spaceAfter}
+use Rattle.calls.specs.Answers.{answerOf, firstAnswer, answeredBy, linesFor, longestAnswer, printedAt, spaceAfter}
 use Rattle.law_agreement.specs.Lines.{linesAfter}
 
 -- What is printed for these lines, given one after the other, the first first: for each its output lines.
@@ -138,7 +139,7 @@ pub session : Session
 unfolding allWords complement ofComplement holdsTable isSpelt rewritten tableOf wordsOf digitOf digitsOf hexLine isDigit valueOf bigEndian numberFrom isLine justLf
     pairOf pairs lengthOf read written entries fieldsRead hasShape padded startsWith lineBytes writtenEach isOf lineRead issueRead openingRead operationRead
     questionRead settlingRead bytesOf listBytes refusalBytes replyBytes frameBytes frameOf headerRead localOf openedAs openedBy receivedAs receivedOn settledAs
-    settledOn answerOn doneBytes issueAnswer issuedBytes openedBytes questionAnswer receivedBytes secondOpening settledBytes answerOf typeOf characters
+    settledOn answerOn doneBytes issueAnswer issuedBytes openedBytes questionAnswer receivedBytes secondOpening settledBytes answerOf firstAnswer typeOf kindOf characters
     lineSaying printedFor linesAfter answeredBy linesFor printedAt spaceAfter printingRead isCounter kindIn closingLine clockLine lastLine openingLine rowLine totalLine
     lastLines rowLines savedForm totalLines saidAfter saidFrom answersFor
 session = record { whole-session = refl; through-answer = refl; ends-with = refl; before-opening = refl; at-table = refl }

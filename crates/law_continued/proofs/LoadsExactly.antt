@@ -2,47 +2,36 @@
 use mathlib.Core.Path.{_≡_, refl, sym, ap, _∙_}
 use mathlib.Core.Bool.{Bool, true, false, not, _&&_, cond, false≢true}
 use mathlib.Core.List.{List, [], _∷_}
-use Prim.Native.Nat.{ℕ, _+_, _-_, _*_}
+use Prim.Native.Nat.{ℕ}
 use lib.Dec.{eqb, leb}
 use lib.ListN.{length, replicate, set}
 use borrow.Author.Tests.{eqb-true, eqb-false}
 use Rattle.meaning.specs.Tests.{between}
 use Rattle.meaning.specs.Refusals.{_when_, firstOf}
-use Rattle.meaning.proofs.Tests.{and-right, cases}
+use Rattle.meaning.proofs.Tests.{and-right, cases, fails}
 use Rattle.words_layout.specs.Layout.{countIn, holdsTable, sizeIn}
 use Rattle.line_hex.specs.Choice.{pick}
-use Rattle.line_hex.specs.Decoding.{isLine, pairs}
-use Rattle.line_shape.specs.Reading.{hasShape, startsWith}
-use Rattle.line_shape.specs.Shapes.{lengthOf}
-use Rattle.line_read.specs.Types.{headOf, isOf, opening, longest}
+use Rattle.line_hex.specs.Decoding.{isLine}
+use Rattle.line_read.specs.Types.{isOf, opening, longest}
 use Rattle.line_read.specs.Named.{countOf}
 use Rattle.line_read.specs.SavedNamed.{closingRead, rowRead}
 use Rattle.line_decode.specs.Decoding.{bytesOf, typeOf}
+use Rattle.line_decode.specs.LineKinds.{kindOf, savedType}
+use Rattle.line_decode.specs.declared.LineKind.the-variants as kind
+use Rattle.line_decode.proofs.KindOfType.{kind-says, saved-kind, shaped-type}
 use Rattle.call_checked.specs.declared.Opened.the-variants as opened
+use Rattle.call_checked.specs.Called.{openedBy}
 use Rattle.form_take.specs.declared.Loaded.{Loaded}
 use Rattle.form_take.specs.declared.Loaded.the-variants as loaded
 use Rattle.form_row.specs.Joining.{joined, joins, rowSaid}
 use Rattle.form_take.specs.Taking.{clockTaken, closed, finished, lastTaken, rowOrClosing, rowTaken, spoilt, took, totalTaken}
 use Rattle.form_load.specs.declared.Next.{Next}
 use Rattle.form_load.specs.declared.Next.the-variants as next
-use Rattle.form_load.specs.Loading.{begun, firstTaken, loadEnded, loadedBy, nextIn, savedType, takenAs, underLoad}
+use Rattle.form_load.specs.Loading.{begun, firstAs, firstTaken, loadEnded, loadedBy, nextIn, takenAs, underLoad}
+use Rattle.form_load.proofs.Loads.{first-other}
 use Rattle.law_agreement.specs.Conditions.{isLineOf, openConditions, openResult}
-use Rattle.calls.proofs.Answering.{starts-type}
 use Rattle.law_agreement.proofs.ExactlyWhen.{Exactly, exactly, open-told}
 use Rattle.law_continued.specs.LoadConditions.{beginConditions, beginResult, endConditions, endLeft, isNext, loadConditions, loadResult, numberOfLoaded, zeroed}
-
--- a line of an opening's shape is of its type
-opening-type : (line : List ℕ) (more : ℕ) → isLineOf opening more line ≡ true → typeOf line ≡ 16
-unfolding isLineOf isOf hasShape bytesOf startsWith
-opening-type line more e = by (isLine longest line) (and-right (isLine longest line) (isOf opening more (bytesOf line)) e)
-  where
-    by : (b : Bool) → (eqb (length (pick b (pairs longest line) [])) (lengthOf (headOf opening) + 1 * more) && startsWith 16 (pick b (pairs longest line) [])) ≡ true → typeOf line ≡ 16
-    by true f = starts-type (longest - 1) 16 line (and-right (eqb (length (pairs longest line)) (lengthOf (headOf opening) + 1 * more)) (startsWith 16 (pairs longest line)) f)
-    by false f = absurd (false≢true (sym (none (eqb 0 (lengthOf (headOf opening) + 1 * more))) ∙ f))
-      where
-        none : (b : Bool) → (b && false) ≡ false
-        none true = refl
-        none false = refl
 
 module _ (line words : List ℕ) where
   abbrev begins : ℕ → Loaded × List ℕ
@@ -52,18 +41,29 @@ module _ (line words : List ℕ) where
   unfolding begun beginResult openResult
   begun-as r = cases (eqb r 0) (λ q. rw q refl) (λ q. rw q refl)
 
-  begin-told : underLoad words ≡ false → loadedBy line words ≡ begins (firstOf (beginConditions line words))
-  unfolding loadedBy firstTaken beginConditions between openConditions
-  begin-told u = rw u (cases (eqb (typeOf line) 16)
-      (λ q. rw (q, eqb-true (typeOf line) 16 q) (ap begun (open-told line words) ∙ begun-as (firstOf (openConditions line words))))
-      (λ q. rw q (by (savedType (typeOf line)) (eqb-false (typeOf line) 16 q))))
-    where
-      other : (typeOf line ≡ 16 → ⊥) → isLineOf opening (countOf (bytesOf line)) line ≡ false
-      other n = cases (isLineOf opening (countOf (bytesOf line)) line) (λ e. absurd (n (opening-type line (countOf (bytesOf line)) e))) (λ e. e)
+  saved-told : savedType (typeOf line) ≡ true → firstTaken line words ≡ (loaded.Refused 15, words)
+  unfolding firstTaken firstAs
+  saved-told s = rw (saved-kind (typeOf line) s) refl
 
-      by : (saved : Bool) → (typeOf line ≡ 16 → ⊥) → pick saved (loaded.Refused 15, words) (loaded.Refused 1, words) ≡ begins (firstOf ((15 when saved) ∷ openConditions line words))
-      by true n = refl
-      by false n = rw (other n) refl
+  opening-told : typeOf line ≡ 16 → firstTaken line words ≡ begun (openedBy line words)
+  unfolding firstTaken firstAs kindOf
+  opening-told z = rw z refl
+
+  -- a line that is neither an opening nor a saved one has no opening's shape
+  other-told : (typeOf line ≡ 16 → ⊥) → savedType (typeOf line) ≡ false → firstTaken line words ≡ (loaded.Refused 1, words)
+  other-told n s = sym (first-other line words (kindOf (typeOf line)) refl (λ z. n (kind-says (typeOf line) kind.Opening z)) (λ z. false≢true (sym s ∙ kind-says (typeOf line) kind.Saved z)))
+
+  misshapen : (typeOf line ≡ 16 → ⊥) → isLineOf opening (countOf (bytesOf line)) line ≡ false
+  unfolding isLineOf
+  misshapen n = fails (isLineOf opening (countOf (bytesOf line)) line) (λ e. n (shaped-type opening (countOf (bytesOf line)) line (and-right (isLine longest line) (isOf opening (countOf (bytesOf line)) (bytesOf line)) e)))
+
+  begin-told : underLoad words ≡ false → loadedBy line words ≡ begins (firstOf (beginConditions line words))
+  unfolding loadedBy beginConditions between openConditions
+  begin-told u = rw u (cases (savedType (typeOf line))
+      (λ s. saved-told s ∙ rw s refl)
+      (λ s. cases (eqb (typeOf line) 16)
+      (λ q. let z : typeOf line ≡ 16 = eqb-true (typeOf line) 16 q in opening-told z ∙ rw z (ap begun (open-told line words) ∙ begun-as (firstOf (openConditions line words))))
+      (λ q. let n : typeOf line ≡ 16 → ⊥ = eqb-false (typeOf line) 16 q in other-told n s ∙ rw (s, misshapen n) refl)))
 
   -- under load
   abbrev goes-on : Next → ℕ → Loaded × List ℕ

@@ -12,13 +12,14 @@ use Rattle.table_rules_clock.specs.ClockTests.{lastKept, totalKept}
 use Rattle.line_hex.specs.Choice.{pick}
 use Rattle.line_read.specs.SavedNamed.{clockRead, closingRead, lastRead, rowRead, totalRead}
 use Rattle.line_decode.specs.Decoding.{typeOf}
+use Rattle.line_decode.specs.LineKinds.{savedType}
 use Rattle.form_take.specs.declared.Loaded.{Loaded}
 use Rattle.form_take.specs.declared.Loaded.the-variants as loaded
 use Rattle.form_row.specs.Joining.{joined, joins, rowSaid}
 use Rattle.form_take.specs.Taking.{took}
 use Rattle.form_load.specs.declared.Next.{Next}
 use Rattle.form_load.specs.declared.Next.the-variants as next
-use Rattle.form_load.specs.Loading.{savedType, underLoad}
+use Rattle.form_load.specs.Loading.{underLoad}
 use Rattle.law_agreement.specs.Conditions.{openConditions, openResult}
 
 -- The number of an answer, 0 where it is no refusal.

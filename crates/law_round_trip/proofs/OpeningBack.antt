@@ -20,11 +20,13 @@ use Rattle.line_read.specs.Named.{openingRead}
 use Rattle.line_read.proofs.Taken.{opening-only-spelling}
 use Rattle.line_read.proofs.Longest.{opening-size}
 use Rattle.line_decode.specs.Decoding.{bytesOf, typeOf}
+use Rattle.line_decode.specs.LineKinds.{kindOf}
 use Rattle.form_lines.specs.FormLines.{openingLine}
 use Rattle.call_checked.specs.Called.{headerRead, openedAs, openedBy}
 use Rattle.call_checked.proofs.Opening.{open-ranges, open-room}
 use Rattle.form_take.specs.declared.Loaded.{Loaded}
-use Rattle.form_load.specs.Loading.{begun, firstTaken, loadedBy, savedType, underLoad}
+use Rattle.form_load.proofs.Loads.{first-cases}
+use Rattle.form_load.specs.Loading.{begun, firstTaken, loadedBy, underLoad}
 use Rattle.law_round_trip.proofs.Under.{Fresh}
 use Rattle.law_round_trip.proofs.Front.{fresh-opened}
 use Rattle.law_round_trip.proofs.Heard.{heard-bytes, line-said}
@@ -60,20 +62,26 @@ module _ (line words : List ℕ) (idle : underLoad words ≡ false) where
   unfolding loadedBy
   first = rw idle refl
 
-  pub opening-back : (refused (loadedBy line words .0) ≡ true) ⊎ Took line words openingLine opened (λ (h : Header). (inRange h ≡ true) × (kept ≡ drop (spaceFor (h .size) (h .capacity)) words) × (spaceFor (h .size) (h .capacity) ≤ length words)) 1 kept
-  unfolding firstTaken begun openedBy openedAs meaning.openTable opened
-  opening-back = cases (eqb (typeOf line) 16)
-      (λ type. cases (openingRead bytes .ok)
+  abbrev Back : Type 0
+  Back = (refused (loadedBy line words .0) ≡ true) ⊎ Took line words openingLine opened (λ (h : Header). (inRange h ≡ true) × (kept ≡ drop (spaceFor (h .size) (h .capacity)) words) × (spaceFor (h .size) (h .capacity) ≤ length words)) 1 kept
+
+  opened-back : loadedBy line words ≡ begun (openedBy line words) → Back
+  unfolding begun openedBy openedAs meaning.openTable opened
+  opened-back is = cases (openingRead bytes .ok)
       (λ ok. cases (eqb refusal 0)
       (λ none. inr (record {
         what = header;
         line-is = line-is ok;
         fresh = fresh-of header (open-ranges words (spaceFor (header .size) (header .capacity)) header refusal refl (eqb-true refusal 0 none));
         kept = (open-ranges words (spaceFor (header .size) (header .capacity)) header refusal refl (eqb-true refusal 0 none), refl, open-room words (spaceFor (header .size) (header .capacity)) header refusal refl (eqb-true refusal 0 none));
-        next-is = first ∙ rw (type, ok, none) refl;
+        next-is = is ∙ rw (ok, none) refl;
       }))
-      (λ some. inl (ap (λ (o : Loaded × List ℕ). refused (o .0)) first ∙ rw (type, ok, some) refl)))
-      (λ bad. inl (ap (λ (o : Loaded × List ℕ). refused (o .0)) first ∙ rw (type, bad) refl)))
-      (λ other. cases (savedType (typeOf line))
-      (λ saved. inl (ap (λ (o : Loaded × List ℕ). refused (o .0)) first ∙ rw (other, saved) refl))
-      (λ none. inl (ap (λ (o : Loaded × List ℕ). refused (o .0)) first ∙ rw (other, none) refl)))
+      (λ some. inl (ap (λ (o : Loaded × List ℕ). refused (o .0)) is ∙ rw (ok, some) refl)))
+      (λ bad. inl (ap (λ (o : Loaded × List ℕ). refused (o .0)) is ∙ rw bad refl))
+
+  pub opening-back : Back
+  unfolding firstTaken
+  opening-back = first-cases line words (λ _ taken. loadedBy line words ≡ taken → Back) opened-back
+      (λ is. inl (ap (λ (o : Loaded × List ℕ). refused (o .0)) is))
+      (λ _ is. inl (ap (λ (o : Loaded × List ℕ). refused (o .0)) is))
+      (kindOf (typeOf line)) first

@@ -34,6 +34,8 @@ use Rattle.line_put.specs.Writing.{lineBytes}
 use Rattle.line_read.specs.Types.{opening, row, closing, headOf, lineRead, longest}
 use Rattle.line_read.proofs.Spelling.{all-bytes-line-of}
 use Rattle.line_decode.specs.Decoding.{bytesOf, typeOf}
+use Rattle.line_decode.specs.LineKinds.{kindOf}
+use Rattle.line_decode.specs.declared.LineKind.the-variants as kind
 use Rattle.line_decode.proofs.Decoding.{bytes-back}
 use Rattle.line_read.specs.SavedNamed.{closingRead, rowRead}
 use Rattle.form_lines.specs.FormLines.{openingLine, clockLine, rowLine, closingLine}
@@ -45,7 +47,7 @@ use Rattle.call_checked.specs.declared.Opened.the-variants as called
 use Rattle.call_checked.specs.Called.{headerRead, openedAs, openedBy}
 use Rattle.form_take.specs.declared.Loaded.the-variants as loaded
 use Rattle.form_load.specs.declared.Next.the-variants as next
-use Rattle.form_load.specs.Loading.{begun, firstTaken, loadedBy, nextAfter, underLoad}
+use Rattle.form_load.specs.Loading.{begun, firstAs, firstTaken, loadedBy, nextAfter, underLoad}
 use Rattle.law_round_trip.specs.Restoring.{loads, takesAll}
 use Rattle.law_round_trip.proofs.Under.{Fresh, under}
 use Rattle.law_round_trip.proofs.RowLines.{row-step, close-step}
@@ -185,9 +187,9 @@ module _ (t : Table) (is : isTable t ≡ true) (rest : List ℕ) where
       close-step t fresh-whole rest p (hexLine line) c (rw heard closing-is-no-row) (ap closingRead heard ∙ closing-back t is) is
 
 -- `10`
-opening-type : (header : Header) → typeOf (hexLine (openingLine header)) ≡ 16
-unfolding typeOf pairOf hexLine digitsOf digitOf isDigit valueOf openingLine lineBytes written bigEndian
-opening-type header = refl
+opening-kind : (header : Header) → kindOf (typeOf (hexLine (openingLine header))) ≡ kind.Opening
+unfolding kindOf typeOf pairOf hexLine digitsOf digitOf isDigit valueOf openingLine lineBytes written bigEndian
+opening-kind header = refl
 
 opening-bytes : (header : Header) → AllBytes (openingLine header)
 unfolding openingLine
@@ -216,8 +218,8 @@ module _ (t : Table) (is : isTable t ≡ true) (space : List ℕ) (no-load : und
   opened-space = rw (opening-heard, header-back, opening-back t is, opens) refl
 
   pub opening-taken : loadedBy line space ≡ (loaded.Taken, under 1 (opened (t .header)) beyond)
-  unfolding loadedBy firstTaken begun
-  opening-taken = rw (no-load, opening-type (t .header), opened-space) refl
+  unfolding loadedBy firstTaken firstAs begun
+  opening-taken = rw (no-load, opening-kind (t .header), opened-space) refl
 
   -- "Loading what a table wrote gives that table back": whatever the space holds, if no load is under way and it is large enough.
   pub round-trip : loads (map hexLine (savedForm t)) space (wordsOf t ++ beyond)

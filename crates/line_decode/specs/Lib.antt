@@ -1,3 +1,4 @@
 pub mod Decoding
 pub mod Text
 pub mod Feeding
+pub mod LineKinds

@@ -3,6 +3,7 @@
 ghost use mathlib.Core.Path.{_≡_};
 ghost use Rattle.line_read.specs.Named.{issueRead, openingRead, operationRead, printingRead, questionRead, settlingRead};
 ghost use Rattle.line_decode.specs.Decoding.{bytesOf, decodedInto, typeOf};
+ghost use Rattle.line_decode.specs.LineKinds.{kindOf};
 use line_hex::Decoded;
 use line_hex::LineType;
 
@@ -70,11 +71,61 @@ pub fn printing(line: &[u8]) -> bool
 }
 
 // The type of a line, malformed ones included.
-pub fn type_of(line: &[u8]) -> u8
+fn type_of(line: &[u8]) -> u8
     ensures { λ r. ⌜ r ≡ typeOf (now (line .entry)) ⌝ }
 {
     match line_hex::line_type(line) {
         LineType::Is(byte) => byte,
         LineType::Unknown => NO_TYPE,
     }
+}
+
+// What a line is, by its type; a saved line is one of type `50` to `5f`.
+pub enum LineKind {
+    Opening,
+    Operation,
+    Issue,
+    Settling,
+    Question,
+    Printing,
+    Saved,
+    Unknown,
+}
+
+// The kind of a line of this type.
+fn kind_by(byte: u8) -> LineKind
+    ensures { λ r. ⌜ r ≡ kindOf byte ⌝ }
+{
+    if byte == line_read::OPENING {
+        return LineKind::Opening;
+    }
+    if byte == line_read::OPERATION {
+        return LineKind::Operation;
+    }
+    if byte == line_read::ISSUE {
+        return LineKind::Issue;
+    }
+    if byte == line_read::SETTLING {
+        return LineKind::Settling;
+    }
+    if byte == line_read::QUESTION {
+        return LineKind::Question;
+    }
+    if byte == line_read::PRINTING {
+        return LineKind::Printing;
+    }
+    if byte < line_read::CLOCK {
+        return LineKind::Unknown;
+    }
+    if line_read::CLOSING < byte {
+        return LineKind::Unknown;
+    }
+    LineKind::Saved
+}
+
+// The kind of a line, decided here for every call and every load.
+pub fn kind_of(line: &[u8]) -> LineKind
+    ensures { λ r. ⌜ r ≡ kindOf (typeOf (now (line .entry))) ⌝ }
+{
+    kind_by(type_of(line))
 }

@@ -3,9 +3,12 @@ use mathlib.Core.Path.{_≡_, refl}
 use mathlib.Core.List.{List}
 use Prim.Native.Nat.{ℕ}
 use Rattle.line_decode.specs.Decoding.{bytesOf, typeOf}
+use Rattle.line_decode.specs.LineKinds.{kindOf}
+use Rattle.line_decode.specs.declared.LineKind.{LineKind}
+use Rattle.line_decode.specs.declared.LineKind.the-variants as kind
 use Rattle.call_checked.specs.Called.{openedBy, receivedOn, settledOn}
 use Rattle.call_answer.specs.Answering.{answerOn, issueAnswer, questionAnswer, secondOpening}
-use Rattle.calls.specs.Answers.{answerOf, linesFor}
+use Rattle.calls.specs.Answers.{answerOf, firstAnswer, linesFor}
 use Rattle.program_output.specs.Gathering.{Held, replied}
 
 module _ (a b : List ℕ) (same : bytesOf a ≡ bytesOf b) where
@@ -33,13 +36,31 @@ module _ (a b : List ℕ) (same : bytesOf a ≡ bytesOf b) where
   unfolding secondOpening
   second-alike = rw same refl
 
-  on-alike : (type : ℕ) (words : List ℕ) → answerOn type a words ≡ answerOn type b words
+  on-alike : (k : LineKind) (words : List ℕ) → answerOn k a words ≡ answerOn k b words
   unfolding answerOn
-  on-alike type words = rw (received-alike words, settled-alike words, issue-alike words, question-alike words, second-alike) refl
+  on-alike kind.Opening words = rw second-alike refl
+  on-alike kind.Operation words = rw (received-alike words) refl
+  on-alike kind.Issue words = issue-alike words
+  on-alike kind.Settling words = rw (settled-alike words) refl
+  on-alike kind.Question words = rw (question-alike words) refl
+  on-alike kind.Printing words = refl
+  on-alike kind.Saved words = refl
+  on-alike kind.Unknown words = refl
+
+  first-alike : (k : LineKind) (words : List ℕ) → firstAnswer k a words ≡ firstAnswer k b words
+  unfolding firstAnswer
+  first-alike kind.Opening words = rw (opened-alike words) refl
+  first-alike kind.Operation words = refl
+  first-alike kind.Issue words = refl
+  first-alike kind.Settling words = refl
+  first-alike kind.Question words = refl
+  first-alike kind.Printing words = refl
+  first-alike kind.Saved words = refl
+  first-alike kind.Unknown words = refl
 
   answer-alike : typeOf a ≡ typeOf b → (words : List ℕ) → answerOf a words ≡ answerOf b words
   unfolding answerOf
-  answer-alike type words = rw (type, on-alike (typeOf b) words, opened-alike words) refl
+  answer-alike type words = rw (type, on-alike (kindOf (typeOf b)) words, first-alike (kindOf (typeOf b)) words) refl
 
   lines-alike : typeOf a ≡ typeOf b → (words : List ℕ) → linesFor a words ≡ linesFor b words
   unfolding linesFor

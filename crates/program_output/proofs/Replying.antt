@@ -16,7 +16,7 @@ use Rattle.form_write.specs.Forms.{savedForm, mostFormLines}
 use Rattle.calls.specs.declared.Answered.{Answered}
 use Rattle.calls.specs.declared.Answered.the-variants.{Line, End}
 use Rattle.calls.specs.Answers.{answerOf, answeredBy, linesFor, printedAt, spaceAfter}
-use Rattle.calls.proofs.Answering.{printing-stays, printing-type}
+use Rattle.calls.proofs.Answering.{printing-kind, printing-stays}
 use Rattle.calls.proofs.Counting.{lines-count}
 use Rattle.form_judge.specs.declared.Judged.{Judged}
 use Rattle.form_judge.specs.Judging.{resavedBy}
@@ -40,7 +40,7 @@ module _ (line words₀ : List ℕ) where
   later-lines : (k : ℕ) (out : List ℕ) → printedAt (linesFor line after) (suc k) out ≡ printedAt lines (suc k) out
   unfolding linesFor printedAt spaceAfter
   later-lines k out = cases (printingRead (bytesOf line))
-      (λ q. ap (λ (w : List ℕ). printedAt (linesFor line w) (suc k) out) (printing-stays line words₀ (replicate frameRoom 0) (printing-type line q) (omega (arith, length-replicate {A = ℕ} frameRoom 0)) 0))
+      (λ q. ap (λ (w : List ℕ). printedAt (linesFor line w) (suc k) out) (printing-stays line words₀ (replicate frameRoom 0) (printing-kind line q) (omega (arith, length-replicate {A = ℕ} frameRoom 0)) 0))
       (λ q. rw q (by (holdsTable after) (holdsTable words₀) (answerOf line after .0) (answerOf line words₀ .0)))
     where
       by : (a b : Bool) (x y : List ℕ) → printedAt (pick (a && false) (savedForm (tableOf after)) (x ∷ [])) (suc k) out ≡ printedAt (pick (b && false) (savedForm (tableOf words₀)) (y ∷ [])) (suc k) out
