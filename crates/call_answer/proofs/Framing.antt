@@ -2,7 +2,7 @@
 use mathlib.Core.Path.{_≡_, refl, sym, ap, _∙_, subst}
 use mathlib.Core.Bool.{Bool, true, false, cond}
 use mathlib.Core.List.{List, [], _∷_, _++_, append-nil}
-use Prim.Native.Nat.{ℕ, zero, suc, _+_, _-_, _≤_}
+use Prim.Native.Nat.{ℕ, zero, suc, _+_, _≤_, _-_}
 use native.Mathlib.Omega.{arith}
 use mir.Val.{Fits}
 use mir.Syntax.{w64}
@@ -57,6 +57,10 @@ unfolding issuedBy tableOf
 next-few words K local =
     let clock = take (sizeIn words) (drop clockAt words) in
     omega (arith, length-set clock (ownIn words) (suc (getD clock (ownIn words) 0)), take-most (sizeIn words) (drop clockAt words), K .few)
+
+-- every frame that is issued has room
+pub frame-room : (words : List ℕ) → Checked words → (local : Local) → length (hexLine (frameBytes (issuedBy (tableOf words) local))) ≤ longestFrame
+frame-room words K local = frame-few (issuedBy (tableOf words) local) (next-few words K local)
 
 -- what the call leaves against the answer's bytes and the space
 abbrev Fit : Issued × (List ℕ × List ℕ) → List ℕ × List ℕ → List ℕ → Type 0

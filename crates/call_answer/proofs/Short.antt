@@ -26,7 +26,7 @@ use Rattle.call_checked.specs.declared.Received.the-variants as received
 use Rattle.call_checked.specs.declared.Settled.{Settled}
 use Rattle.call_checked.specs.declared.Settled.the-variants as settled
 use Rattle.call_checked.specs.Called.{receivedOn, settledOn}
-use Rattle.call_answer.specs.Answering.{answerOn, doneBytes, issueAnswer, openedBytes, questionAnswer, receivedBytes, secondOpening, settledBytes}
+use Rattle.call_answer.specs.Answering.{answerOn, doneBytes, openedBytes, questionAnswer, receivedBytes, secondOpening, settledBytes}
 use Rattle.call_answer.proofs.Framing.{issue-short}
 use Rattle.meaning.specs.Table.{mostRows}
 

@@ -30,7 +30,7 @@ use Rattle.line_decode.specs.Decoding.{bytesOf}
 use Rattle.call_checked.specs.declared.Issued.{Issued}
 use Rattle.call_checked.specs.declared.Issued.the-variants as issued
 use Rattle.call_checked.specs.Called.{localOf, frameBytes, framedAs, issuedAs, issuedOn}
-use Rattle.call_checked.proofs.Receiving.{picked}
+use Rattle.line_hex.proofs.Picking.{picked}
 
 -- a space that is too short stays
 isShort : Written → Bool

@@ -2,7 +2,7 @@
 use mathlib.Core.Path.{_≡_, refl, sym, ap, _∙_}
 use mathlib.Core.Bool.{Bool, true, false}
 use mathlib.Core.List.{List}
-use Prim.Native.Nat.{ℕ, _-_, _≤_}
+use Prim.Native.Nat.{ℕ, _≤_, _-_}
 use native.Mathlib.Omega.{arith}
 use lib.Dec.{eqb}
 use lib.ListN.{length, take, drop, take-append-drop, length-append}
@@ -18,7 +18,7 @@ use Rattle.refusal_order.specs.declared.Sent.{Sent}
 use Rattle.refusal_order.specs.Fields.{frameFrom}
 use Rattle.arrival_frame.specs.Receiving as receiving
 use Rattle.arrival_frame.specs.Receiving.{outcomeIn}
-use Rattle.line_hex.specs.Choice.{pick}
+use Rattle.line_hex.proofs.Picking.{picked}
 use Rattle.line_read.specs.declared.Operation.{Operation}
 use Rattle.line_read.specs.Named.{operationRead}
 use Rattle.line_read.proofs.Named.{operation-stations-few, operation-vector-length}
@@ -26,10 +26,6 @@ use Rattle.line_decode.specs.Decoding.{bytesOf}
 use Rattle.call_checked.specs.declared.Received.{Received}
 use Rattle.call_checked.specs.declared.Received.the-variants as received
 use Rattle.call_checked.specs.Called.{frameOf, receivedAs, receivedOn}
-
--- the first of two where the test holds
-pub picked : {A : Type 0} (b : Bool) (x y : A) → b ≡ true → pick b x y ≡ x
-picked b x y e = rw e refl
 
 -- an outcome, by its number
 module _ (words : List ℕ) (r : ℕ) (x : List ℕ) (number : ℕ) (u : meant.Operation) (t : Table) (e : (r, x) ≡ outcomeIn words (outcome number u t)) where

@@ -12,23 +12,17 @@ use Rattle.meaning.specs.Calls.{withRows, rowsSettled, steps}
 use Rattle.meaning.proofs.Tests.{cases}
 use Rattle.words_tags.specs.declared.RowCount.{RowCount}
 use Rattle.words_layout.specs.Layout.{tableOf, rewritten}
-use Rattle.line_hex.specs.Decoding.{isLine}
 use Rattle.line_hex.specs.Numbers.{AllBytes, numberOf, numberFrom}
 use Rattle.line_hex.proofs.Bytes.{all-bytes-drop}
-use Rattle.line_hex.proofs.Spelling.{all-bytes-pairs}
 use Rattle.line_shape.specs.Reading.{fieldsRead, hasShape, padded}
 use Rattle.line_shape.specs.Shapes.{read, lengthOf}
 use Rattle.line_read.specs.declared.Settling.{Settling}
-use Rattle.line_read.specs.Types.{lineRead, longest}
+use Rattle.line_read.specs.Types.{lineRead}
 use Rattle.line_read.specs.Named.{settlingRead}
 use Rattle.line_decode.specs.Decoding.{bytesOf}
+use Rattle.line_decode.proofs.Decoding.{decoded-bytes}
 use Rattle.call_checked.specs.declared.Settled.the-variants as settled
 use Rattle.call_checked.specs.Called.{settledAs, settledOn}
-
--- what is heard is bytes
-pub heard-bytes : (line : List ℕ) → AllBytes (bytesOf line)
-unfolding bytesOf AllBytes
-heard-bytes line = cases (isLine longest line) (λ b. rw b (all-bytes-pairs longest line)) (λ b. rw b tt)
 
 two-bytes : (bs : List ℕ) → AllBytes bs → numberOf (take 2 bs) < 65536
 unfolding AllBytes numberFrom
@@ -61,4 +55,4 @@ module _ (line words : List ℕ) (asked : Settling) (a : asked ≡ settlingRead 
       let same : asked .limit ≡ limit = ap (λ (q : Settling). q .limit) a in
       rw (ok-is true f)
       (ap₂ (λ (n : ℕ) (w : List ℕ). (settled.Steps (record { 0 = n }), w)) (g ∙ ap (steps (tableOf words)) same) (h ∙ ap (λ (n : ℕ). rewritten words (withRows (tableOf words) (rowsSettled (tableOf words) n))) same)
-      ∙ sym (taken-as limit (limit-read (bytesOf line) (heard-bytes line))))
+      ∙ sym (taken-as limit (limit-read (bytesOf line) (decoded-bytes line))))

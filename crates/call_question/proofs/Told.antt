@@ -13,7 +13,7 @@ use Rattle.meaning.specs.Questions.{Asked, Source, byRows, answerFrom, fits}
 use Rattle.meaning.specs.Refusals.{_when_, firstOf, declared, wellAsked, listTooLong, askedRefusals, questionRefusals}
 use Rattle.meaning.specs.Calls as meaning
 use Rattle.meaning.specs.Calls.{ask, askOf, replyOf}
-use Rattle.meaning.proofs.Tests.{cases}
+use Rattle.meaning.proofs.Tests.{and-left, cases}
 use Rattle.words_layout.specs.Layout.{tableOf}
 use Rattle.words_tags.specs.declared.RowCount.{RowCount}
 use Rattle.refusal_kind.specs.Asking.{askedFrom}
@@ -97,10 +97,6 @@ module _ (source : Source) (asked : Asked) where
   chain-count false false true d = refl
   chain-count false false false true = refl
   chain-count false false false false = answer-count (eqb (asked .question) 1) (eqb (asked .question) 2) (eqb (asked .question) 3) (eqb (asked .question) 4)
-
-and-left : (a b : Bool) → (a && b) ≡ true → a ≡ true
-and-left true b e = refl
-and-left false b e = e
 
 module _ (s : List ℕ) (K : Checked s) (object asking value : ℕ) where
   abbrev t : Table

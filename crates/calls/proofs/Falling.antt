@@ -21,7 +21,8 @@ use Rattle.line_decode.specs.Decoding.{bytesOf}
 use Rattle.call_checked.specs.declared.Settled.{Settled}
 use Rattle.call_checked.specs.declared.Settled.the-variants as settled
 use Rattle.call_checked.specs.Called.{settledAs, settledOn}
-use Rattle.call_checked.proofs.Settling.{limit-read, heard-bytes}
+use Rattle.line_decode.proofs.Decoding.{decoded-bytes}
+use Rattle.call_checked.proofs.Settling.{limit-read}
 use Rattle.calls.specs.Calls.{fallen, settledBy}
 use Rattle.calls.proofs.Tested.{settle-table, settle-no-table}
 
@@ -43,7 +44,7 @@ module _ (words : List ℕ) where
       limit = settlingRead (bytesOf line) .limit
 
       by : (b : Bool) → Falls words (pick b (settledAs words (meaning.settle (tableOf words) limit)) (settled.Refused 1, words))
-      by true = taken-falls K limit (limit-read (bytesOf line) (heard-bytes line))
+      by true = taken-falls K limit (limit-read (bytesOf line) (decoded-bytes line))
       by false = refl
 
   by-falls : (line : List ℕ) → Falls words (settledBy line words)

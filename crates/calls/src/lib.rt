@@ -119,8 +119,8 @@ fn line_or_end(w: Written) -> Answered
     }
 }
 
-// A refusal is one line.
-fn refuse_at(number: u32, k: usize, out: &mut [u8]) -> Answered
+// A refusal is one line: for both programs.
+pub fn refuse_at(number: u32, k: usize, out: &mut [u8]) -> Answered
     requires { ⌜ frameRoom ≤ length (now out) ⌝ }
     ensures { λ r. ⌜ (r, now (out .exit)) ≡ printedAt (refusalBytes number ∷ []) k (now (out .entry)) ⌝ }
 {

@@ -2,27 +2,24 @@
 use mathlib.Core.Path.{_≡_, refl, sym, ap, _∙_}
 use mathlib.Core.Bool.{true}
 use mathlib.Core.List.{List, [], _∷_}
-use Prim.Native.Nat.{ℕ, zero, suc, _≤_, _<_}
+use Prim.Native.Nat.{ℕ, _≤_, _<_}
 use native.Mathlib.Omega.{arith}
 use lib.ListN.{length, replicate, length-replicate}
 use Rattle.words_layout.specs.Layout.{holdsTable, tableOf}
 use Rattle.line_hex.specs.Hex.{isDigit, valueOf}
-use Rattle.line_hex.specs.Decoding.{isLine, justLf, pairOf, pairs}
+use Rattle.line_hex.specs.Decoding.{isLine, justLf, pairs}
 use Rattle.line_shape.specs.Reading.{hasShape, startsWith}
 use Rattle.line_shape.specs.Shapes.{lengthOf}
-use Rattle.line_put.specs.declared.Written.{Written}
-use Rattle.line_put.specs.declared.Written.the-variants as written
-use Rattle.line_read.specs.Types.{isOf, refused}
+use Rattle.line_read.specs.Types.{isOf}
 use Rattle.line_read.specs.Named.{printingRead}
-use Rattle.line_print.specs.Printed.{printed}
-use Rattle.line_decode.specs.Decoding.{bytesOf, typeOf}
+use Rattle.line_decode.specs.Decoding.{bytesOf}
 use Rattle.form_write.specs.Forms.{savedForm, mostFormLines}
 use Rattle.call_question.specs.AnswerBytes.{refusalBytes}
 use Rattle.calls.specs.declared.Answered.{Answered}
 use Rattle.calls.specs.declared.Answered.the-variants as answered
-use Rattle.calls.specs.Answers.{answeredBy, linesFor, printedAt, longestAnswer}
+use Rattle.calls.specs.Answers.{answeredBy, linesFor, printedAt}
 use Rattle.calls.proofs.Counting.{lines-count}
-use Rattle.calls.proofs.Answering.{printing-kind, printing-stays, refused-first, told-end, told-line}
+use Rattle.calls.proofs.Answering.{printing-kind, printing-stays}
 use Rattle.form_judge.specs.declared.Judged.{Judged}
 use Rattle.form_judge.specs.declared.Judged.the-variants as judged
 use Rattle.form_judge.specs.Judging.{judgedAll, judgedEnd, printing, resavedBy, resavedLines}
@@ -41,19 +38,6 @@ closed-prints words h = rw (h, printing-read) refl
 
 pub resaved-form : (lines : List (List ℕ)) (words after : List ℕ) → judgedEnd (judgedAll lines (judged.Open, words)) ≡ (judged.Closed, after) → resavedLines judged.Closed after ≡ savedForm (tableOf after)
 resaved-form lines words after e = closed-prints after (closed-is-table lines words after e)
-
--- the ways through refuse
-pub refuse-later : (number : ℕ) (out : List ℕ) (k : ℕ) → 0 < k → (answered.End, out) ≡ printedAt (refusalBytes number ∷ []) k out
-unfolding printedAt
-refuse-later number out zero h = absurd (omega arith)
-refuse-later number out (suc k) h = refl
-
-module _ (number : ℕ) (out : List ℕ) (long : length out ≡ longestAnswer) (k : ℕ) (h : k ≤ 0) (w : Written) (y : List ℕ) (p : (w, y) ≡ printed out refused (number ∷ []) []) where
-  pub refuse-line : (n : ℕ) → w ≡ written.Characters n → (answered.Line n, y) ≡ printedAt (refusalBytes number ∷ []) k out
-  refuse-line n e = refused-first number out (omega (arith, long)) k h w y p (answered.Line n) (told-line w n e)
-
-  pub refuse-short : w ≡ written.TooShort → (answered.End, y) ≡ printedAt (refusalBytes number ∷ []) k out
-  refuse-short e = refused-first number out (omega (arith, long)) k h w y p answered.End (told-end w e)
 
 -- the ways through resave
 module _ (words out : List ℕ) (k : ℕ) (before : Judged) where

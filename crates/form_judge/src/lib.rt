@@ -1,12 +1,9 @@
 // A saved form judged a line at a time: whether it is one, and what the second program prints in the end. Any words will do, and any line.
 ghost use mathlib.Core.Path.{_≡_};
 ghost use mathlib.Core.List.{[], _∷_};
-ghost use Rattle.calls.specs.Answers.{printedAt};
-ghost use Rattle.call_question.specs.AnswerBytes.{refusalBytes};
 ghost use Rattle.form_judge.specs.Judging.{judgedAs, judgedBy, judgedEnd, resavedBy};
 use calls::Answered;
 use form_take::Loaded;
-use line_put::Written;
 use refusal_number::WRONG;
 
 // The line that asks for the form.
@@ -55,19 +52,6 @@ pub fn judge_end(space: &mut [u32], before: Judged) -> Judged
     }
 }
 
-// A refusal is one line.
-fn refuse(number: u32, k: usize, out: &mut [u8; calls::LONGEST_ANSWER]) -> Answered
-    ensures { λ r. ⌜ (r, now (out .exit)) ≡ printedAt (refusalBytes number ∷ []) k (now (out .entry)) ⌝ }
-{
-    if 0 < k {
-        return Answered::End;
-    }
-    match line_print::write_refusal(out, number) {
-        Written::Characters(n) => Answered::Line(n),
-        Written::TooShort => Answered::End,
-    }
-}
-
 // The k-th output line of the second program, from 0 on, or the end: of the form again, or of its refusal. A form that goes on prints nothing yet.
 pub fn resave(
     space: &mut [u32],
@@ -80,6 +64,6 @@ pub fn resave(
     match before {
         Judged::Open => Answered::End,
         Judged::Closed => calls::answer(space, &PRINT, k, out),
-        Judged::Refused(number) => refuse(number, k, out),
+        Judged::Refused(number) => calls::refuse_at(number, k, out),
     }
 }

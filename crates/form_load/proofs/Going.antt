@@ -2,7 +2,7 @@
 use mathlib.Core.Path.{_≡_, refl, sym, ap, _∙_, subst}
 use mathlib.Core.Bool.{Bool, true, false, _&&_, cond}
 use mathlib.Core.List.{List, [], _∷_, _++_, append-assoc}
-use Prim.Native.Nat.{ℕ, zero, suc, _+_, _-_, _*_, _≤_, _<_}
+use Prim.Native.Nat.{ℕ, zero, suc, _+_, _*_, _≤_, _<_, _-_}
 use native.Mathlib.Omega.{arith}
 use native.Mathlib.Nat.{suc-mul, mul-le-mul-right}
 use borrow.Author.Tests.{eq-eqb, ne-eqb, eqb-true, eqb-false, le-leb, leb-true, leb-false}
@@ -40,7 +40,7 @@ use Rattle.form_row.proofs.Joining.{join-counts, join-room}
 use Rattle.form_take.specs.declared.Loaded.{Loaded}
 use Rattle.form_take.specs.declared.Loaded.the-variants as loaded
 use Rattle.form_take.specs.Taking.{clockTaken, closed, finished, lastTaken, progressIn, rowOrClosing, rowTaken, spoilt, took, totalTaken}
-use Rattle.form_take.proofs.Words.{passed, picked}
+use Rattle.line_hex.proofs.Picking.{passed, picked}
 use Rattle.form_load.specs.declared.Next.{Next}
 use Rattle.form_load.specs.declared.Next.the-variants as next
 use Rattle.form_load.specs.Loading.{begun, behindLasts, firstTaken, headLoads, loadWaits, loadedBy, nextAfter, nextIn, takenAs, underLoad, waits}

@@ -2,7 +2,7 @@
 use mathlib.Core.Path.{_≡_, refl, sym, ap, _∙_, subst}
 use mathlib.Core.Bool.{Bool, true, false}
 use mathlib.Core.List.{List, _++_}
-use Prim.Native.Nat.{ℕ, _-_, _<_}
+use Prim.Native.Nat.{ℕ, _<_, _-_}
 use native.Mathlib.Omega.{arith}
 use lib.ListN.{drop, length, set, take}
 use Rattle.meaning.specs.Table.{Table}
@@ -22,7 +22,7 @@ use Rattle.call_checked.specs.Called.{headerRead, openedAs, openedBy}
 use Rattle.form_take.specs.declared.Loaded.{Loaded}
 use Rattle.form_take.specs.declared.Loaded.the-variants as loaded
 use Rattle.form_take.specs.Taking.{clockTaken, lastTaken, rowOrClosing, spoilt, totalTaken}
-use Rattle.form_take.proofs.Words.{passed, picked}
+use Rattle.line_hex.proofs.Picking.{passed, picked}
 use Rattle.form_load.specs.declared.Next.{Next}
 use Rattle.form_load.specs.declared.Next.the-variants as next
 use Rattle.form_load.specs.Loading.{begun, firstAs, firstTaken, loadEnded, loadedBy, nextIn, takenAs, underLoad}

@@ -25,7 +25,7 @@ use Rattle.form_row.specs.Joining.{joined, joins, rowSaid}
 use Rattle.form_take.specs.declared.Loaded.{Loaded}
 use Rattle.form_take.specs.declared.Loaded.the-variants as loaded
 use Rattle.form_take.specs.Taking.{clockTaken, closed, finished, lastTaken, rowOrClosing, rowTaken, spoilt, took, totalTaken}
-use Rattle.form_take.proofs.Words.{passed, picked}
+use Rattle.line_hex.proofs.Picking.{passed, picked}
 use Rattle.form_load.specs.declared.Next.{Next}
 use Rattle.form_load.specs.declared.Next.the-variants as next
 use Rattle.form_load.specs.Loading.{begun, firstTaken, loadEnded, loadedBy, nextIn, takenAs, underLoad, waits}

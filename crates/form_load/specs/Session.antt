@@ -22,6 +22,7 @@ use Rattle.line_decode.specs.LineKinds.{kindOf}
 use Rattle.line_decode.specs.Text.{characters, lineSaying}
 use Rattle.call_checked.specs.Called.{headerRead, openedAs, openedBy}
 use Rattle.form_write.specs.Seeking.{counterAt, otherAt}
+use Rattle.form_write.specs.Session.{sessionForm}
 use Rattle.table_rules.specs.TableTests.{sizesKept}
 use Rattle.table_rules_rows.specs.RowTests.{contentKept, follows, numberKept, rowKept, tagKept, unsettledKept}
 use Rattle.table_rules_clock.specs.ClockTests.{lastKept, totalKept}
@@ -86,10 +87,6 @@ wordWords = 0
 unfoldable pub loadWords : ℕ
 unfolding openedAs headerRead openedBy otherAt counterAt spoilt took clockTaken lastTaken totalTaken rowSaid lastRow joins joined rowTaken finished closed rowOrClosing behindLasts nextAfter nextIn waits headLoads loadWaits underLoad takenAs begun firstAs firstTaken loadedBy loadEnded loadedAll seen
 loadWords = 0
-
--- The last lines of 01's session.
-abbrev pub sessionForm : List String
-sessionForm = "10020000040108" ∷ "500000000100000002" ∷ "51010000000000000002" ∷ "5300010000000000070000000100000000" ∷ "5f0001" ∷ []
 
 -- Own station 1 of two, a set between two counters, a total below zero, a settled row.
 abbrev pub countersTable : Table

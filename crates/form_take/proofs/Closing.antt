@@ -2,7 +2,7 @@
 use mathlib.Core.Path.{_≡_, refl, sym, ap, _∙_}
 use mathlib.Core.Bool.{Bool, true, false, _&&_}
 use mathlib.Core.List.{List, _++_}
-use Prim.Native.Nat.{ℕ, _+_, _-_, _≤_, _<_}
+use Prim.Native.Nat.{ℕ, _+_, _≤_, _<_, _-_}
 use native.Mathlib.Omega.{arith}
 use borrow.Author.Tests.{eq-eqb, ne-eqb, le-leb, lt-leb}
 use lib.Dec.{eqb, leb}
@@ -19,7 +19,7 @@ use Rattle.form_row.proofs.Joining.{row-part}
 use Rattle.form_take.specs.declared.Loaded.{Loaded}
 use Rattle.form_take.specs.declared.Loaded.the-variants as loaded
 use Rattle.form_take.specs.Taking.{closed, finished, rowOrClosing, rowTaken, spoilt}
-use Rattle.form_take.proofs.Words.{passed, picked}
+use Rattle.line_hex.proofs.Picking.{passed, picked}
 use Rattle.meaning.specs.Table.{greatestSize}
 
 -- a row's line

@@ -2,7 +2,7 @@
 use mathlib.Core.Path.{_≡_, refl, sym, ap, _∙_}
 use mathlib.Core.Bool.{Bool, true, false, _&&_, and-false}
 use mathlib.Core.List.{List, [], _∷_, _++_}
-use Prim.Native.Nat.{ℕ, suc, _+_, _-_, _*_, _≤_, _<_}
+use Prim.Native.Nat.{ℕ, suc, _+_, _*_, _≤_, _<_, _-_}
 use native.Mathlib.Omega.{arith}
 use native.Mathlib.Nat.{suc-mul, mul-le-mul-right}
 use borrow.Author.Tests.{eq-eqb, ne-eqb}
@@ -17,6 +17,7 @@ use Rattle.words_layout.specs.Layout.{objectsIn, sizeIn, clockAt, totalsAt}
 use Rattle.table_rules.specs.TableTests.{clockIn, kindsIn}
 use Rattle.table_rules_clock.specs.ClockTests.{lastKept, totalKept}
 use Rattle.line_hex.specs.Choice.{pick}
+use Rattle.line_hex.proofs.Picking.{passed, picked}
 use Rattle.line_read.specs.declared.Clock.{Clock}
 use Rattle.line_read.specs.declared.LastVector.{LastVector}
 use Rattle.line_read.specs.declared.Total.{Total}
@@ -27,13 +28,6 @@ use Rattle.form_row.proofs.Joining.{no-more, part-of, second-fails}
 use Rattle.form_take.specs.declared.Loaded.{Loaded}
 use Rattle.form_take.specs.declared.Loaded.the-variants as loaded
 use Rattle.form_take.specs.Taking.{clockTaken, lastTaken, spoilt, took, totalTaken}
-
--- one of two, by what the test says
-pub picked : {A : Type 0} (b : Bool) (x y : A) → b ≡ true → pick b x y ≡ x
-picked b x y e = rw e refl
-
-pub passed : {A : Type 0} (b : Bool) (x y : A) → b ≡ false → pick b x y ≡ y
-passed b x y e = rw e refl
 
 -- tests one after the other
 pub third-fails : (a b c : Bool) → c ≡ false → (a && (b && c)) ≡ false

@@ -1,6 +1,7 @@
 -- The definition computed: the form that ends 01's session, and a form with what that one lacks.
 use mathlib.Core.Path.{_≡_, refl}
-use mathlib.Core.List.{[], _∷_}
+use mathlib.Core.List.{List, [], _∷_}
+use Prim.Native.String.{String}
 use lib.IntN.{pos, negsuc}
 use Rattle.meaning.specs.Operations.{isCounter}
 use Rattle.meaning.specs.Papers.{sessionSaved}
@@ -13,7 +14,10 @@ use Rattle.line_put.specs.Writing.{writtenEach, lineBytes}
 use Rattle.form_lines.specs.FormLines.{openingLine, clockLine, lastLine, totalLine, rowLine, closingLine}
 use Rattle.form_write.specs.Forms.{lastLines, totalLines, rowLines, savedForm}
 
--- "10020000040108", "500000000100000002", "51010000000000000002", "5300010000000000070000000100000000", "5f0001"
+-- the last lines of 01's session
+abbrev pub sessionForm : List String
+sessionForm = "10020000040108" ∷ "500000000100000002" ∷ "51010000000000000002" ∷ "5300010000000000070000000100000000" ∷ "5f0001" ∷ []
+
 pub session-form : savedForm sessionSaved
     ≡ (16 ∷ 2 ∷ 0 ∷ 0 ∷ 4 ∷ 1 ∷ 8 ∷ [])
     ∷ (80 ∷ 0 ∷ 0 ∷ 0 ∷ 1 ∷ 0 ∷ 0 ∷ 0 ∷ 2 ∷ [])

@@ -40,6 +40,7 @@ use Rattle.line_decode.specs.LineKinds.{kindOf}
 use Rattle.line_decode.specs.declared.LineKind.{LineKind}
 use Rattle.line_decode.specs.declared.LineKind.the-variants as kind
 use Rattle.line_decode.proofs.KindOfType.{shaped-type}
+use Rattle.call_answer.proofs.Framing.{frame-room}
 use Rattle.form_write.specs.Forms.{savedForm}
 use Rattle.form_save.specs.declared.Saved.{Saved}
 use Rattle.form_save.specs.declared.Saved.the-variants as saved
@@ -53,7 +54,7 @@ use Rattle.calls.proofs.Answering.{answer-formed, first-cases, form-end, form-l
 use Rattle.law_agreement.specs.Conditions.{isLineOf}
 use Rattle.law_agreement.specs.Lines.{ByType, isDone, issuedAnswer, repliedAnswer, savedAnswer}
 use Rattle.law_agreement.proofs.Shaping.{printing-shaped}
-use Rattle.law_agreement.proofs.Lines.{done-is-done, frame-room, zeros-frame}
+use Rattle.law_agreement.proofs.Lines.{done-is-done, zeros-frame}
 
 module _ (line words : List ℕ) where
   -- at a table, and before an accepted opening

@@ -43,9 +43,10 @@ use Rattle.calls.specs.Calls as calls
 use Rattle.call_checked.specs.Called.{frameBytes, frameOf, framedAs, headerRead, issuedAs, issuedOn, localOf, openedAs, openedBy, repliedOn, receivedAs, receivedOn, settledAs, settledOn}
 use Rattle.calls.specs.Calls.{repliedBy, receivedBy, settledBy}
 use Rattle.law_agreement.specs.Station.{Call, receives, issues, settles, wordsAfter, wordsAfterAll, frameFits, eventsOf, eventsOfAll}
-use Rattle.call_checked.proofs.Settling.{limit-read, heard-bytes}
+use Rattle.line_decode.proofs.Decoding.{decoded-bytes}
+use Rattle.call_checked.proofs.Settling.{limit-read}
 use Rattle.call_checked.proofs.Opening.{open-ranges}
-use Rattle.call_checked.proofs.Receiving.{picked}
+use Rattle.line_hex.proofs.Picking.{picked}
 
 -- the space holds the table that a station has
 pub record Holds (words : List ℕ) (station : Station) : Type 0 where
@@ -100,7 +101,7 @@ module _ (words : List ℕ) (station : Station) (H : Holds words station) where
       limit = settlingRead (bytesOf line) .limit
 
       by : (b : Bool) → Holds (pick b (settledAs words (meaning.settle (tableOf words) limit)) (settled.Refused 1, words) .1) (afterAll (pick b (history.settles limit ∷ []) []) station)
-      by true = settle-event limit (limit-read (bytesOf line) (heard-bytes line))
+      by true = settle-event limit (limit-read (bytesOf line) (decoded-bytes line))
       by false = H
 
   -- a local operation, with room for its frame or without

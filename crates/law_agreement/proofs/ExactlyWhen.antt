@@ -47,7 +47,8 @@ use Rattle.calls.specs.Calls as calls
 use Rattle.call_checked.specs.Called.{frameBytes, frameOf, framedAs, headerRead, issuedAs, issuedOn, localOf, openedAs, openedBy, receivedAs, receivedOn, repliedOn, settledAs, settledOn}
 use Rattle.calls.specs.Calls.{receivedBy, repliedBy, settledBy}
 use Rattle.law_agreement.specs.Conditions.{isLineOf, openConditions, receiveConditions, issueConditions, settleConditions, askConditions, saveConditions, numberOfOpened, numberOfReceived, numberOfIssued, numberOfSettled, numberOfSaved, askRefusal, openResult, receiveResult, issueResult, settleResult, askResult, saveResult}
-use Rattle.call_checked.proofs.Settling.{limit-read, heard-bytes}
+use Rattle.line_decode.proofs.Decoding.{decoded-bytes}
+use Rattle.call_checked.proofs.Settling.{limit-read}
 use Rattle.law_agreement.proofs.Shaping.{opening-shaped, operation-shaped, issue-shaped, settling-shaped, question-shaped, printing-shaped, frame-shaped}
 
 -- What a call answers and what it leaves in the spaces that are lent to it, by the conditions of its refusals. `numbers` is its own order of them.
@@ -148,7 +149,7 @@ module _ (line words : List ℕ) where
   unfolding receivedBy receivedOn receiveConditions meaning.receive refusalOfFrame arrivalRefusals frameRefusals
   receive-told = on-table hears (holdsTable words) _ _ (λ h.
       by-shape (operationRead (bytesOf line) .ok) (leb size greatestSize) (isLineOf operation size line) (wellShaped (table .header) frame) (eqb size (table .header .size)) _
-      (operation-shaped line) (λ ok. frame-shaped (bytesOf line) (heard-bytes line) ok (table .header)) (other-size (checked words h)))
+      (operation-shaped line) (λ ok. frame-shaped (bytesOf line) (decoded-bytes line) ok (table .header)) (other-size (checked words h)))
 
 -- a local operation
 module _ (line words out : List ℕ) where
@@ -222,7 +223,7 @@ module _ (line words : List ℕ) where
   settle-told : settledBy line words ≡ settles (firstOf (settleConditions line words))
   unfolding settledBy settledOn settleConditions settleResult settledAs
   settle-told = on-table settles (holdsTable words) _ _ (λ h.
-      by (settlingRead (bytesOf line) .ok) _ (ap (settledAs words) (limit-taken limit (limit-read (bytesOf line) (heard-bytes line))))
+      by (settlingRead (bytesOf line) .ok) _ (ap (settledAs words) (limit-taken limit (limit-read (bytesOf line) (decoded-bytes line))))
       ∙ ap (λ (b : Bool). settles (cond (not b) 1 0)) (settling-shaped line))
     where
       by : (b : Bool) (x : Settled × List ℕ) → x ≡ settles 0 → pick b x (settled.Refused 1, words) ≡ settles (cond (not b) 1 0)

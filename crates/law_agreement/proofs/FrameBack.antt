@@ -2,20 +2,17 @@
 use mathlib.Core.Path.{_≡_, refl, sym, ap, _∙_, subst}
 use mathlib.Core.Bool.{Bool, true, false, cond}
 use mathlib.Core.List.{List, [], _∷_, _++_}
-use Prim.Native.Nat.{ℕ, _-_, _<_}
+use Prim.Native.Nat.{ℕ, _<_, _-_}
 use native.Mathlib.Omega.{arith}
-use lib.Dec.{ltb}
 use lib.ListN.{length, take, drop, replicate, length-replicate}
 use lib.Seq.{take-at}
-use borrow.Author.Tests.{ltb-true, not-false}
-use Rattle.meaning.specs.Tests.{every}
-use Rattle.meaning.specs.Order.{entryLimit}
+use borrow.Author.Tests.{not-false}
 use Rattle.meaning.specs.Operations as meant
 use Rattle.meaning.specs.Table.{Table, greatestSize}
 use Rattle.meaning.specs.Refusals.{Frame, Local, operationAllowed, issuedBy, issueRefusals, localRefusals, refusalOfLocal}
 use Rattle.meaning.specs.Calls as meaning
 use Rattle.meaning.specs.Calls.{outcome, afterArrival}
-use Rattle.meaning.proofs.Tests.{cases, and-left, and-right}
+use Rattle.meaning.proofs.Tests.{cases}
 use Rattle.meaning.proofs.Refusals.{givenAt}
 use Rattle.meaning.proofs.TableFacts.{Facts, facts}
 use Rattle.meaning.proofs.TableRules.{kept-by-local}
@@ -34,7 +31,8 @@ use Rattle.line_read.proofs.Longest.{operation-at-most-longest}
 use Rattle.line_read.proofs.Named.{operation-reads-back}
 use Rattle.line_read.proofs.Spelling.{all-bytes-line-of}
 use Rattle.line_decode.specs.Decoding.{bytesOf}
-use Rattle.line_decode.proofs.Decoding.{bytes-back}
+use Rattle.line_decode.proofs.Decoding.{bytes-back, decoded-bytes}
+use Rattle.form_write.proofs.ReadsBack.{below-every, fit-each}
 use Rattle.call_checked.specs.declared.Issued.{Issued}
 use Rattle.call_checked.specs.declared.Issued.the-variants as issued
 use Rattle.call_checked.specs.declared.Received.the-variants as received
@@ -42,8 +40,7 @@ use Rattle.calls.specs.Calls as calls
 use Rattle.call_checked.specs.Called.{frameBytes, frameOf, localOf, receivedAs, receivedOn}
 use Rattle.calls.specs.Calls.{receivedBy}
 use Rattle.law_agreement.specs.Conditions.{issueConditions, issueResult, numberOfIssued}
-use Rattle.call_checked.proofs.Settling.{heard-bytes}
-use Rattle.call_checked.proofs.Receiving.{picked}
+use Rattle.line_hex.proofs.Picking.{picked}
 use Rattle.law_agreement.proofs.Shaping.{one-byte, four-bytes}
 use Rattle.law_agreement.proofs.ExactlyWhen.{exactly-when}
 use Rattle.meaning.specs.Operations.{valueLimit}
@@ -63,13 +60,6 @@ issue-narrow bytes h =
     cases (hasShape 33 7 bytes)
     (λ b. rw b (record { object = one-byte (drop 1 bytes) one; code = one-byte (drop 1 (drop 1 bytes)) two; value = four-bytes (drop 1 (drop 1 (drop 1 bytes))) three }))
     (λ b. rw b (record { object = omega arith; code = omega arith; value = omega arith }))
-
--- entries of 32 bits fit four bytes each
-fits-entries : (vector : List ℕ) → every (λ (entry : ℕ). ltb entry entryLimit) vector ≡ true → Fitting (replicate (length vector) 4) vector
-unfolding Fitting
-fits-entries [] h = tt
-fits-entries (entry ∷ vector) h =
-    (ltb-true entry entryLimit (and-left (ltb entry entryLimit) (every (λ (entry : ℕ). ltb entry entryLimit) vector) h), fits-entries vector (and-right (ltb entry entryLimit) (every (λ (entry : ℕ). ltb entry entryLimit) vector) h))
 
 -- the frame of a local operation that a table accepts
 module _ (words : List ℕ) (K : Checked words) (local : Local) (ok : refusalOfLocal (tableOf words) local ≡ 0) (narrow : Narrow local) where
@@ -91,7 +81,7 @@ module _ (words : List ℕ) (K : Checked words) (local : Local) (ok : refusalOfL
   fitting =
       let few = K .few in
       let own = K .own in
-      (omega arith, (omega (arith, long), (omega arith, (narrow .object, (narrow .code, (narrow .value, fits-entries (u .vector) (kept .clock-words)))))))
+      (omega arith, (omega (arith, long), (omega arith, (narrow .object, (narrow .code, (narrow .value, fit-each 4 (u .vector) (below-every (u .vector) (kept .clock-words))))))))
 
   reads : operationRead (frameBytes u) ≡ record { ok = true; stations = length (u .vector); sender = u .sender; object = u .object; code = u .code; value = u .value; vector = padded greatestSize (u .vector) }
   unfolding frameBytes
@@ -191,6 +181,6 @@ module _ (line words out : List ℕ) (n : ℕ) (words′ out′ : List ℕ) (e :
   pub issued-line-reads-back : Says words words′ local (take n out′)
   issued-line-reads-back =
       let K = checked words held in
-      let narrow = issue-narrow (bytesOf line) (heard-bytes line) in
+      let narrow = issue-narrow (bytesOf line) (decoded-bytes line) in
       subst (λ (w : List ℕ). Says words w local (take n out′)) (sym table-words)
       (says words K local taken narrow (take n out′) (ap bytesOf characters ∙ line-back words K local taken narrow))

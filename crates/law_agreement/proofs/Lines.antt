@@ -2,14 +2,14 @@
 use mathlib.Core.Path.{_≡_, refl, sym, ap, _∙_, subst}
 use mathlib.Core.Bool.{Bool, true, false, not, _&&_, false≢true}
 use mathlib.Core.List.{List, [], _∷_, _++_, append-nil, append-assoc}
-use Prim.Native.Nat.{ℕ, suc, _-_, _%_, _≤_, _<_}
+use Prim.Native.Nat.{ℕ, _%_, _≤_, _<_, _-_}
 use native.Mathlib.Omega.{arith}
 use lib.Dec.{eqb, leb}
-use lib.ListN.{getD, length, length-set, drop, set, take}
+use lib.ListN.{getD, length, drop, set, take}
 use borrow.Author.Tests.{le-leb}
 use Rattle.meaning.specs.Operations.{Operation}
 use Rattle.meaning.specs.Rows.{unsettledCount}
-use Rattle.meaning.specs.Table.{Header, Table, kindIn, zeros, greatestSize, mostRows}
+use Rattle.meaning.specs.Table.{Header, Table, kindIn, zeros, mostRows}
 use Rattle.meaning.specs.Refusals.{Frame, Local, issuedBy, refusalOfFrame, refusalOfLocal, declared, wellAsked, askedRefusals, questionRefusals}
 use Rattle.meaning.specs.Questions as asks
 use Rattle.meaning.specs.Calls as meaning
@@ -17,25 +17,21 @@ use Rattle.meaning.specs.Calls.{afterArrival, outcome}
 use Rattle.meaning.specs.History as history
 use Rattle.meaning.specs.History.{Event, Station, after, afterAll, afterOutcome, afterSettling, reached}
 use Rattle.meaning.proofs.Tests.{cases}
-use Rattle.meaning.proofs.TableFacts.{facts}
 use Rattle.meaning.proofs.Agreement.{Within}
 use Rattle.words_layout.specs.Layout.{holdsTable, rowsIn, tableOf}
 use Rattle.refusal_kind.specs.Asking.{askedFrom}
-use Rattle.table_rules.specs.Checked.{Checked}
 use Rattle.table_rules.proofs.Checking.{checked}
 use Rattle.line_hex.specs.Choice.{pick}
 use Rattle.line_hex.specs.Hex.{hexLine}
 use Rattle.line_hex.specs.Numbers.{bigEndian}
 use Rattle.line_hex.specs.Putting.{putAt}
-use Rattle.line_shape.specs.Shapes.{lengthOf, written}
+use Rattle.line_shape.specs.Shapes.{written}
 use Rattle.line_put.specs.Writing.{lineBytes}
 use Rattle.line_put.specs.declared.Written.{Written}
-use Rattle.line_put.proofs.Whole.{length-hex-line}
 use Rattle.line_read.specs.Types.{operation, question, refused, longestFrame}
 use Rattle.line_read.specs.Named.{issueRead, openingRead, operationRead, questionRead, settlingRead}
 use Rattle.line_print.specs.Printed.{printed}
 use Rattle.call_question.specs.AnswerBytes.{listBytes, refusalBytes, replyBytes}
-use Rattle.line_read.proofs.Lengths.{line-length}
 use Rattle.call_question.proofs.Told.{chain, never-long}
 use Rattle.call_checked.specs.declared.Issued.{Issued}
 use Rattle.call_checked.specs.declared.Issued.the-variants as issued
@@ -47,7 +43,7 @@ use Rattle.call_checked.specs.declared.Opened.{Opened}
 use Rattle.call_checked.specs.declared.Opened.the-variants as opened
 use Rattle.call_checked.specs.Called.{frameBytes, frameOf, headerRead, issuedOn, localOf, openedBy, receivedAs, receivedOn, settledOn}
 use Rattle.call_answer.specs.Answering.{answerOn, doneBytes, issueAnswer, issuedBytes, openedBytes, questionAnswer, receivedBytes, secondOpening, settledBytes, answeredAfter, frameRoom}
-use Rattle.call_answer.proofs.Framing.{issue-framed, issue-refused}
+use Rattle.call_answer.proofs.Framing.{frame-room, issue-framed, issue-refused}
 use Rattle.line_decode.specs.Decoding.{bytesOf, typeOf}
 use Rattle.line_decode.specs.LineKinds.{kindOf}
 use Rattle.line_decode.specs.declared.LineKind.{LineKind}
@@ -57,7 +53,7 @@ use Rattle.calls.specs.Calls as calls
 use Rattle.calls.specs.Calls.{receivedBy, settledBy}
 use Rattle.law_agreement.specs.Station.{Call, receives, issues, settles, wordsAfter, wordsAfterAll, frameFits, eventsOf, eventsOfAll}
 use Rattle.law_agreement.specs.Lines.{OpenedBy, acceptedBy, acceptedByAll, callsAs, callsOf, callsOfAll, isDone, linesAfter, meantAnswer, offeredAs, offeredBy}
-use Rattle.call_checked.proofs.Receiving.{picked}
+use Rattle.line_hex.proofs.Picking.{picked}
 use Rattle.law_agreement.proofs.Calling.{Holds, after-both, calls-hold, holds-reached, opening-in-range, reply-agrees, reply-meant, rows-agree}
 
 -- a refusal is none of `00`
@@ -128,29 +124,10 @@ module _ (line words : List ℕ) (held : holdsTable words ≡ true) where
       by kind.Saved = refl
       by kind.Unknown = refl
 
-size-few : (words : List ℕ) → Checked words → tableOf words .header .size ≤ greatestSize
-unfolding tableOf
-size-few words K = K .few
-
 -- a question line at a table
 pub question-on : (line words : List ℕ) → holdsTable words ≡ true → typeOf line ≡ question .typeByte → answerOf line words ≡ (questionAnswer line words, words)
 unfolding answerOn kindOf
 question-on line words held type = on-table line words held ∙ rw type refl
-
--- every frame that is issued has room
-pub frame-room : (words : List ℕ) → Checked words → (local : Local) → length (hexLine (frameBytes (issuedBy (tableOf words) local))) ≤ longestFrame
-unfolding frameBytes issuedBy lengthOf
-frame-room words K local =
-    let table = tableOf words in
-    let u = issuedBy table local in
-    omega (
-      arith,
-      length-hex-line (frameBytes u),
-      line-length operation (length (u .vector) ∷ u .sender ∷ u .object ∷ u .code ∷ u .value ∷ []) (u .vector) refl,
-      length-set (table .clock) (table .header .own) (suc (getD (table .clock) (table .header .own) 0)),
-      facts table (K .by-rules) .clock-length,
-      size-few words K,
-    )
 
 -- what one line brings to a station
 module _ (line words : List ℕ) (s : Station) (H : Holds words s) where

@@ -22,6 +22,7 @@ use Rattle.line_decode.specs.LineKinds.{kindOf}
 use Rattle.line_decode.specs.Text.{characters, lineSaying}
 use Rattle.form_lines.specs.FormLines.{closingLine, clockLine, lastLine, openingLine, rowLine, totalLine}
 use Rattle.form_write.specs.Forms.{lastLines, rowLines, savedForm, totalLines}
+use Rattle.form_write.specs.Session.{sessionForm}
 use Rattle.call_question.specs.AnswerBytes.{listBytes, refusalBytes, replyBytes}
 use Rattle.call_checked.specs.Called.{frameBytes, frameOf, headerRead, localOf, openedAs, openedBy, receivedAs, receivedOn, settledAs, settledOn}
 use Rattle.call_answer.specs.Answering.{answerOn, doneBytes, issueAnswer, issuedBytes, openedBytes, questionAnswer, receivedBytes, secondOpening, settledBytes}
@@ -76,10 +77,6 @@ line gets answer = line prints (answer ∷ [])
 -- Given one after the other to that space, each line gets its answer.
 abbrev pub Right : List Exchange → Type 0
 Right exchanges = printedFor (map (λ e. e .given) exchanges) space ≡ map (λ e. e .printed) exchanges
-
--- The lines of the session's table.
-abbrev pub sessionForm : List String
-sessionForm = "10020000040108" ∷ "500000000100000002" ∷ "51010000000000000002" ∷ "5300010000000000070000000100000000" ∷ "5f0001" ∷ []
 
 -- "The whole of one session, input then output".
 abbrev pub wholeSession : List Exchange

@@ -5,7 +5,7 @@ use Prim.Native.Nat.{ℕ, _+_, _*_}
 use lib.Dec.{eqb, leb}
 use lib.ListN.{getD, replicate, length, set, take}
 use Rattle.meaning.specs.Table.{totalBound}
-use Rattle.meaning.specs.Refusals.{Refusal, _when_}
+use Rattle.meaning.specs.Refusals.{_when_, Refusal}
 use Rattle.words_layout.specs.Layout.{clockAt, countIn, holdsTable, lastAt, ownIn, sizeIn, totalOfWords, totalsAt}
 use Rattle.table_rules.specs.TableTests.{clockIn, kindsIn}
 use Rattle.table_rules_clock.specs.ClockTests.{lastKept, totalKept}

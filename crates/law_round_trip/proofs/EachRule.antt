@@ -35,7 +35,7 @@ use Rattle.law_round_trip.proofs.Setting.{set-set}
 use Rattle.law_round_trip.proofs.Under.{Fresh, under, count-is, next-is, object-in, station-in, waiting}
 use Rattle.law_round_trip.proofs.RoundTrip.{closing-first, no-shape}
 use Rattle.law_round_trip.proofs.RowLines.{close-step}
-use Rattle.law_round_trip.proofs.Heard.{heard-bytes}
+use Rattle.line_decode.proofs.Decoding.{decoded-bytes}
 use Rattle.law_round_trip.proofs.StepsBack.{Took, clock-back, isTaken, last-back, refused, total-back}
 use Rattle.law_round_trip.proofs.RowBack.{Closed, RowRules, close-back, row-back}
 use Rattle.law_round_trip.proofs.OpeningBack.{kept, opening-back}
@@ -199,7 +199,7 @@ module _ (n : ℕ) (words : List ℕ) (S : SoFar n words) (rows : nextIn words �
   closes line ok count =
       let f = closingRead (bytesOf line) in
       let many : f .rows ≡ length (u .rows) = count ∙ ap countIn (S .words-are) ∙ count-is u fresh (S .rest) (S .progress) in
-      let spelt : closingLine (f .rows) ≡ bytesOf line = closing-only-spelling (bytesOf line) (heard-bytes line) ok in
+      let spelt : closingLine (f .rows) ≡ bytesOf line = closing-only-spelling (bytesOf line) (decoded-bytes line) ok in
       let no-row : rowRead (u .header .size) (bytesOf line) .ok ≡ false = subst (λ (bytes : List ℕ). rowRead (u .header .size) bytes .ok ≡ false) spelt (no-shape (headOf row) (u .header .size) (closingLine (f .rows)) (closing-first (f .rows))) in
       ap (loadedBy line) (S .words-are)
       ∙ close-step u fresh (S .rest) (S .progress) line come no-row (ap₂ (λ (b : Bool) (n : ℕ). record { ok = b; rows = n }) ok many) is-table

@@ -6,7 +6,7 @@ pub mod RowLines
 pub mod Mixed
 pub mod Front
 pub mod RoundTrip
-pub mod Heard
+pub mod Decoded
 pub mod StepsBack
 pub mod RowBack
 pub mod OpeningBack

@@ -29,7 +29,8 @@ use Rattle.form_load.proofs.Loads.{first-cases}
 use Rattle.form_load.specs.Loading.{begun, firstTaken, loadedBy, underLoad}
 use Rattle.law_round_trip.proofs.Under.{Fresh}
 use Rattle.law_round_trip.proofs.Front.{fresh-opened}
-use Rattle.law_round_trip.proofs.Heard.{heard-bytes, line-said}
+use Rattle.line_decode.proofs.Decoding.{decoded-bytes}
+use Rattle.law_round_trip.proofs.Decoded.{line-said}
 use Rattle.law_round_trip.proofs.StepsBack.{Took, refused}
 
 fresh-of : (header : Header) → inRange header ≡ true → Fresh (opened header)
@@ -55,7 +56,7 @@ module _ (line words : List ℕ) (idle : underLoad words ≡ false) where
   line-is ok =
       let asked = openingRead bytes in
       let count : asked .count ≡ length (drop 6 bytes) = omega (arith, opening-size bytes ok, length-drop 6 bytes) in
-      line-said opening (asked .stations ∷ asked .own ∷ asked .capacity ∷ asked .count ∷ []) (drop 6 bytes) line (opening-only-spelling bytes (heard-bytes line) ok)
+      line-said opening (asked .stations ∷ asked .own ∷ asked .capacity ∷ asked .count ∷ []) (drop 6 bytes) line (opening-only-spelling bytes (decoded-bytes line) ok)
       ∙ ap (λ (n : ℕ). hexLine (lineOf opening (asked .stations ∷ asked .own ∷ asked .capacity ∷ n ∷ []) (drop 6 bytes))) count
 
   first : loadedBy line words ≡ firstTaken line words

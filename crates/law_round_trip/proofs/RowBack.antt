@@ -3,7 +3,7 @@ use mathlib.Core.Path.{_≡_, refl, sym, ap, _∙_}
 use mathlib.Core.Bool.{Bool, true, false, not, _&&_, cond}
 use mathlib.Core.Logic.{_⊎_, inl, inr}
 use mathlib.Core.List.{List, [], _∷_, _++_, map}
-use Prim.Native.Nat.{ℕ, zero, suc, _+_, _-_, _*_, _≤_, _<_}
+use Prim.Native.Nat.{ℕ, zero, suc, _+_, _*_, _≤_, _<_, _-_}
 use native.Mathlib.Omega.{arith}
 use lib.Dec.{eqb, leb, ltb}
 use lib.ListN.{getD, length, take, set, replicate}
@@ -42,7 +42,8 @@ use Rattle.law_round_trip.proofs.Setting.{set-set}
 use Rattle.law_round_trip.proofs.Under.{Fresh, under, count-is, kinds-are, clock-is}
 use Rattle.law_round_trip.proofs.Steps.{front-of}
 use Rattle.law_round_trip.proofs.RowLines.{by-rows, last-is, lineOfRow, row-step}
-use Rattle.law_round_trip.proofs.Heard.{heard-bytes, line-said, value-small, vector-padded}
+use Rattle.line_decode.proofs.Decoding.{decoded-bytes}
+use Rattle.law_round_trip.proofs.Decoded.{line-said, value-small, vector-padded}
 use Rattle.law_round_trip.proofs.StepsBack.{Took, fresh-row, refused}
 use Rattle.meaning.specs.Operations.{valueLimit}
 
@@ -141,7 +142,7 @@ module _ (t : Table) (F : Fresh t) (rest : List ℕ) (p : ℕ) (line : List ℕ)
       let both = and-right (f .ok) (eqb (f .rows) (length (t .rows)) && holdsTable plain) yes in
       let many : f .rows ≡ length (t .rows) = eqb-true (f .rows) (length (t .rows)) (and-left (eqb (f .rows) (length (t .rows))) (holdsTable plain) both) in
       inr (record {
-        line-is = line-said closing (f .rows ∷ []) [] line (closing-only-spelling bytes (heard-bytes line) ok) ∙ ap (λ (k : ℕ). hexLine (lineOf closing (k ∷ []) [])) many;
+        line-is = line-said closing (f .rows ∷ []) [] line (closing-only-spelling bytes (decoded-bytes line) ok) ∙ ap (λ (k : ℕ). hexLine (lineOf closing (k ∷ []) [])) many;
         held = and-right (eqb (f .rows) (length (t .rows))) (holdsTable plain) both;
         next-is = answer ∙ rw yes refl;
       }))
@@ -172,7 +173,7 @@ module _ (t : Table) (F : Fresh t) (rest : List ℕ) (p : ℕ) (line : List ℕ)
   row-taken ok long flag join =
       let f = rowRead size bytes in
       let J = joined (rowSaid size f) join in
-      let small : f .value < valueLimit = value-small bytes (heard-bytes line) size in
+      let small : f .value < valueLimit = value-small bytes (decoded-bytes line) size in
       let kinds = t .header .kinds in
       let r : Row = saidRow size f long small flag kinds (t .clock) (J .1 .0) in
       let spelt : rowWords size r ≡ rowSaid size f = words-said size f long small flag kinds (t .clock) (J .1 .0) in
@@ -180,7 +181,7 @@ module _ (t : Table) (F : Fresh t) (rest : List ℕ) (p : ℕ) (line : List ℕ)
       let e : f ≡ lineOfRow size r = said-line size f long small flag kinds (t .clock) (J .1 .0) ok (vector-padded row size bytes ok) in
       record {
         what = r;
-        line-is = line-said row (f .object ∷ f .code ∷ f .settled ∷ f .sender ∷ f .value ∷ []) (take size (f .vector)) line (row-only-spelling bytes (heard-bytes line) size ok)
+        line-is = line-said row (f .object ∷ f .code ∷ f .settled ∷ f .sender ∷ f .value ∷ []) (take size (f .vector)) line (row-only-spelling bytes (decoded-bytes line) size ok)
             ∙ ap (λ (g : saved.Row). hexLine (lineOf row (g .object ∷ g .code ∷ g .settled ∷ g .sender ∷ g .value ∷ []) (take size (g .vector)))) e
             ∙ ap (λ (l : List ℕ). hexLine (lineOf row (r .operation .object ∷ r .operation .code ∷ cond (r .settled) 1 0 ∷ r .operation .sender ∷ r .operation .value ∷ []) l)) (front-of (words.padded size (r .operation .vector)) size (length-padded size (r .operation .vector) few));
         fresh = fresh-row t F r (row-shaped size f long small flag kinds (t .clock) (J .1 .0)) (J .0);

@@ -41,7 +41,8 @@ use Rattle.form_load.specs.Loading.{loadedBy, nextAfter, takenAs, waits}
 use Rattle.law_round_trip.specs.Restoring.{loads}
 use Rattle.law_round_trip.proofs.Under.{Fresh, under, size-is, own-is, kinds-are, clock-is, taken-by}
 use Rattle.law_round_trip.proofs.Steps.{clock-step, last-step, total-step}
-use Rattle.law_round_trip.proofs.Heard.{heard-bytes, high-small, line-said, low-small, vector-padded, vector-small}
+use Rattle.line_decode.proofs.Decoding.{decoded-bytes}
+use Rattle.law_round_trip.proofs.Decoded.{high-small, line-said, low-small, vector-padded, vector-small}
 
 abbrev pub refused : Loaded → Bool
 refused (loaded.Refused number) = true
@@ -173,9 +174,9 @@ module _ (t : Table) (F : Fresh t) (rest : List ℕ) (p : ℕ) (line : List ℕ)
       cases (f .ok)
       (λ ok. inr (record {
         what = v;
-        line-is = line-said clock [] v line (clock-only-spelling bytes (heard-bytes line) size ok);
+        line-is = line-said clock [] v line (clock-only-spelling bytes (decoded-bytes line) size ok);
         fresh = fresh-clock t F v long;
-        kept = vector-small clock size bytes (heard-bytes line) ok;
+        kept = vector-small clock size bytes (decoded-bytes line) ok;
         next-is = clock-step t F rest p line none c v long (ap₂ (λ (b : Bool) (u : Vector). record { ok = b; vector = u }) ok (vector-padded clock size bytes ok));
       }))
       (λ bad. inl (ap (λ (o : Loaded × List ℕ). refused (o .0)) (taken-by t F rest p line next.Clock c no-rows) ∙ rw (size-is t F rest p, bad) refl))
@@ -194,7 +195,7 @@ module _ (t : Table) (F : Fresh t) (rest : List ℕ) (p : ℕ) (line : List ℕ)
       let same : f .station ≡ k = eqb-true (f .station) k (and-left (eqb (f .station) k) kept both) in
       inr (record {
         what = v;
-        line-is = line-said lastVector (f .station ∷ []) v line (last-only-spelling bytes (heard-bytes line) size ok) ∙ ap (λ (i : ℕ). hexLine (lineOf lastVector (i ∷ []) v)) same;
+        line-is = line-said lastVector (f .station ∷ []) v line (last-only-spelling bytes (decoded-bytes line) size ok) ∙ ap (λ (i : ℕ). hexLine (lineOf lastVector (i ∷ []) v)) same;
         fresh = fresh-last t F k v long;
         kept = and-right (eqb (f .station) k) kept both;
         next-is = last-step t F rest p line none k b c v long (and-right (eqb (f .station) k) kept both) (ap (λ (g : Bool). record { ok = g; station = f .station; vector = f .vector }) ok ∙ ap₂ (λ (i : ℕ) (u : Vector). record { ok = true; station = i; vector = u }) same (vector-padded lastVector size bytes ok));
@@ -207,8 +208,8 @@ module _ (t : Table) (F : Fresh t) (rest : List ℕ) (p : ℕ) (line : List ℕ)
   total-back o b c =
       let f = totalRead bytes in
       let z = totalOfWords (f .high ∷ f .low ∷ []) in
-      let high : f .high < wordLimit = high-small bytes (heard-bytes line) in
-      let low : f .low < wordLimit = low-small bytes (heard-bytes line) in
+      let high : f .high < wordLimit = high-small bytes (decoded-bytes line) in
+      let low : f .low < wordLimit = low-small bytes (decoded-bytes line) in
       let code : complement z ≡ f .high * wordLimit + f .low = said-complement (f .high) (f .low) high low in
       let high-is : complement z / wordLimit ≡ f .high = rw code (high-of (f .high) (f .low) low) in
       let low-is : complement z % wordLimit ≡ f .low = rw code (low-of (f .high) (f .low) low) in
@@ -220,7 +221,7 @@ module _ (t : Table) (F : Fresh t) (rest : List ℕ) (p : ℕ) (line : List ℕ)
       let same : f .object ≡ o = eqb-true (f .object) o (and-left (eqb (f .object) o) kept both) in
       inr (record {
         what = z;
-        line-is = line-said total (f .object ∷ f .high ∷ f .low ∷ []) [] line (total-only-spelling bytes (heard-bytes line) ok) ∙ rw (same, high-is, low-is) refl;
+        line-is = line-said total (f .object ∷ f .high ∷ f .low ∷ []) [] line (total-only-spelling bytes (decoded-bytes line) ok) ∙ rw (same, high-is, low-is) refl;
         fresh = fresh-total t F o z range;
         kept = and-right (eqb (f .object) o) kept both;
         next-is = total-step t F rest p line none o b c z range (and-right (eqb (f .object) o) kept both) (rw (ok, same, high-is, low-is) refl);

@@ -1,5 +1,5 @@
--- What is heard of a line stands at the front of the buffer.
-use Prim.Native.Nat.{ℕ, _+_, _-_, _≤_}
+-- What is decoded of a line stands at the front of the buffer, and is bytes.
+use Prim.Native.Nat.{ℕ, _+_, _≤_, _-_}
 use mathlib.Core.Path.{_≡_, refl, sym, ap, ap₂, _∙_}
 use mathlib.Core.Bool.{Bool, true, false}
 use mathlib.Core.List.{List, [], _++_}
@@ -10,7 +10,7 @@ use Rattle.meaning.proofs.Tests.{cases}
 use Rattle.line_hex.specs.Choice.{pick}
 use Rattle.line_hex.specs.Hex.{hexLine}
 use Rattle.line_hex.specs.Numbers.{AllBytes}
-use Rattle.line_hex.proofs.Spelling.{line-reads-back}
+use Rattle.line_hex.proofs.Spelling.{all-bytes-pairs, line-reads-back}
 use Rattle.line_hex.specs.Decoding.{decoded, isLine, lineType, pairs}
 use Rattle.line_hex.specs.declared.LineType.{LineType}
 use Rattle.line_hex.specs.declared.LineType.the-variants.{Is, Unknown}
@@ -66,6 +66,11 @@ module _ (line buffer : List ℕ) (long : length buffer ≡ longest) where
         fewer true = omega arith
         fewer false = omega arith
 
+-- each is a byte
+pub decoded-bytes : (line : List ℕ) → AllBytes (bytesOf line)
+unfolding bytesOf AllBytes
+decoded-bytes line = cases (isLine longest line) (λ b. rw b (all-bytes-pairs longest line)) (λ b. rw b tt)
+
 -- so what is read there is what is read of the line's bytes
 pub reads-heard : {A : Type 0} (read : List ℕ → A) (line buffer : List ℕ) (n : ℕ) (x : List ℕ) (r : A) → length buffer ≡ longest → (n, x) ≡ decodedInto line buffer → r ≡ read (take (n - 0) x) → r ≡ read (bytesOf line)
 reads-heard read line buffer n x r long e f = f ∙ ap read (heard-front line buffer long n x e)
@@ -82,7 +87,7 @@ pub type-unknown : (line : List ℕ) (t : LineType) → t ≡ lineType line → 
 unfolding typeOf
 type-unknown line t e h = ap byteOfType (sym h ∙ e)
 
--- what is heard of the one spelling of bytes is these bytes
+-- what is decoded of the one spelling of bytes is these bytes
 pub bytes-back : (bs buffer : List ℕ) → AllBytes bs → length buffer ≡ longest → length bs ≤ longest → bytesOf (hexLine bs) ≡ bs
 bytes-back bs buffer h long few =
     let whole = bs ++ drop (length bs) buffer in

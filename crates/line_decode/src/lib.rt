@@ -1,5 +1,5 @@
-// Lines as the calls hear them: characters read to bytes, and the bytes taken apart; what is no line is heard as no bytes, which have no shape.
-// Lines kept a character at a time, however the input is cut. This crate has no functions: its definitions are in specs/, its laws in proofs/.
+// Lines decoded for the calls: characters that were kept one at a time, however the input was cut, read to bytes, and the bytes taken apart; what is no line is
+// decoded as no bytes, which have no shape.
 ghost use mathlib.Core.Path.{_≡_};
 ghost use Rattle.line_read.specs.Named.{issueRead, openingRead, operationRead, printingRead, questionRead, settlingRead};
 ghost use Rattle.line_decode.specs.Decoding.{bytesOf, decodedInto, typeOf};
@@ -30,6 +30,7 @@ pub fn is_opening(line: &[u8]) -> bool
     asked.ok
 }
 
+// The operation that a `20` line says, or none where the line is misshapen.
 pub fn operation(line: &[u8]) -> line_read::Operation
     ensures { λ r. ⌜ r ≡ operationRead (bytesOf (now (line .entry))) ⌝ }
 {
@@ -38,6 +39,7 @@ pub fn operation(line: &[u8]) -> line_read::Operation
     line_read::read_operation(&bytes[0..n])
 }
 
+// The local operation that a `21` line says, or none where the line is misshapen.
 pub fn issue(line: &[u8]) -> line_read::Issue
     ensures { λ r. ⌜ r ≡ issueRead (bytesOf (now (line .entry))) ⌝ }
 {
@@ -46,6 +48,7 @@ pub fn issue(line: &[u8]) -> line_read::Issue
     line_read::read_issue(&bytes[0..n])
 }
 
+// The limit that a `30` line says, or none where the line is misshapen.
 pub fn settling(line: &[u8]) -> line_read::Settling
     ensures { λ r. ⌜ r ≡ settlingRead (bytesOf (now (line .entry))) ⌝ }
 {
@@ -54,6 +57,7 @@ pub fn settling(line: &[u8]) -> line_read::Settling
     line_read::read_settling(&bytes[0..n])
 }
 
+// The question that a `40` line asks, or none where the line is misshapen.
 pub fn question(line: &[u8]) -> line_read::Question
     ensures { λ r. ⌜ r ≡ questionRead (bytesOf (now (line .entry))) ⌝ }
 {
@@ -62,6 +66,7 @@ pub fn question(line: &[u8]) -> line_read::Question
     line_read::read_question(&bytes[0..n])
 }
 
+// Whether a line is a `60` line in its right shape.
 pub fn printing(line: &[u8]) -> bool
     ensures { λ r. ⌜ r ≡ printingRead (bytesOf (now (line .entry))) ⌝ }
 {

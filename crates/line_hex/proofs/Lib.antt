@@ -4,3 +4,4 @@ pub mod Reading
 pub mod Writing
 pub mod Spelling
 pub mod Keeping
+pub mod Picking

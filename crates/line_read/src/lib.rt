@@ -1,5 +1,4 @@
-// The lines that a station reads: a reader each, which gives the fields by name, with `ok` false and zeros where the shape is wrong.
-// The lines of a saved form behind its opening: a reader each, which gives the fields by name, with `ok` false and zeros where the shape is wrong.
+// The lines that a station reads and those of a saved form: a reader each, which gives the fields by name, with `ok` false and zeros where the shape is wrong.
 ghost use mathlib.Core.Path.{_≡_};
 ghost use Prim.Native.Nat.{_<_};
 ghost use lib.ListN.{getD};
@@ -139,6 +138,7 @@ fn count_at(s: &[u8], at: usize) -> usize
     }
 }
 
+// `10`: the group size, the own station, the capacity, and how many kinds follow.
 pub fn read_opening(s: &[u8]) -> Opening
     ensures { λ r. ⌜ r ≡ openingRead (now (s .entry)) ⌝ }
 {
@@ -162,6 +162,7 @@ pub fn read_opening(s: &[u8]) -> Opening
     }
 }
 
+// `20`: an operation with its vector, which has as many entries as the line itself says.
 pub fn read_operation(s: &[u8]) -> Operation
     ensures { λ r. ⌜ r ≡ operationRead (now (s .entry)) ⌝ }
 {
@@ -179,6 +180,7 @@ pub fn read_operation(s: &[u8]) -> Operation
     }
 }
 
+// `21`: a local operation.
 pub fn read_issue(s: &[u8]) -> Issue
     ensures { λ r. ⌜ r ≡ issueRead (now (s .entry)) ⌝ }
 {
@@ -192,6 +194,7 @@ pub fn read_issue(s: &[u8]) -> Issue
     }
 }
 
+// `30`: the limit of a settling call.
 pub fn read_settling(s: &[u8]) -> Settling
     ensures { λ r. ⌜ r ≡ settlingRead (now (s .entry)) ⌝ }
 {
@@ -203,6 +206,7 @@ pub fn read_settling(s: &[u8]) -> Settling
     }
 }
 
+// `40`: a question about an object.
 pub fn read_question(s: &[u8]) -> Question
     ensures { λ r. ⌜ r ≡ questionRead (now (s .entry)) ⌝ }
 {
@@ -260,6 +264,7 @@ pub struct Closing {
     pub rows: u32,
 }
 
+// `50`: D, of so many stations.
 pub fn read_clock(s: &[u8], stations: usize) -> Clock
     ensures { λ r. ⌜ r ≡ clockRead stations (now (s .entry)) ⌝ }
 {
@@ -268,6 +273,7 @@ pub fn read_clock(s: &[u8], stations: usize) -> Clock
     Clock { ok: f.ok, vector }
 }
 
+// `51`: a station's last vector, of so many entries.
 pub fn read_last(s: &[u8], stations: usize) -> LastVector
     ensures { λ r. ⌜ r ≡ lastRead stations (now (s .entry)) ⌝ }
 {
@@ -281,6 +287,7 @@ pub fn read_last(s: &[u8], stations: usize) -> LastVector
     }
 }
 
+// `52`: a counter's total, as two words.
 pub fn read_total(s: &[u8]) -> Total
     ensures { λ r. ⌜ r ≡ totalRead (now (s .entry)) ⌝ }
 {
@@ -294,6 +301,7 @@ pub fn read_total(s: &[u8]) -> Total
     }
 }
 
+// `53`: a row, with a vector of so many entries.
 pub fn read_row(s: &[u8], stations: usize) -> Row
     ensures { λ r. ⌜ r ≡ rowRead stations (now (s .entry)) ⌝ }
 {
@@ -311,6 +319,7 @@ pub fn read_row(s: &[u8], stations: usize) -> Row
     }
 }
 
+// `5f`: how many rows the form has.
 pub fn read_closing(s: &[u8]) -> Closing
     ensures { λ r. ⌜ r ≡ closingRead (now (s .entry)) ⌝ }
 {

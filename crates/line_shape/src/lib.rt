@@ -44,6 +44,7 @@ pub struct Fields {
     pub vector: [u32; meaning::MOST_STATIONS],
 }
 
+// The byte at a place, or none past the end.
 pub fn byte_at(s: &[u8], at: usize) -> NextByte
     ensures { λ r. ⌜ r ≡ byteAt (now (s .entry)) at ⌝ }
 {
@@ -61,6 +62,7 @@ fn wide(x: u8) -> u32
     x as u32
 }
 
+// The number of the four bytes from a place on, most significant first, or none where fewer are left.
 pub fn four_at(s: &[u8], at: usize) -> NextFour
     ensures { λ r. ⌜ r ≡ fourAt (now (s .entry)) at ⌝ }
 {
@@ -78,6 +80,7 @@ pub fn four_at(s: &[u8], at: usize) -> NextFour
     NextFour::Four(number, at + FOUR)
 }
 
+// Whether a place is behind the last byte.
 pub fn at_end(s: &[u8], at: usize) -> bool
     ensures { λ r. ⌜ r ≡ atEnd (now (s .entry)) at ⌝ }
 {

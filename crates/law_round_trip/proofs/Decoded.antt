@@ -1,5 +1,5 @@
--- A line that is heard is the one spelling of its bytes, and what is read of it.
-use Prim.Native.Nat.{ℕ, zero, suc, _+_, _-_, _*_, _≤_, _<_}
+-- A line that is decoded is the one spelling of its bytes, and what is read of it.
+use Prim.Native.Nat.{ℕ, zero, suc, _+_, _*_, _≤_, _<_, _-_}
 use mathlib.Core.Path.{_≡_, refl, sym, ap, _∙_}
 use mathlib.Core.Bool.{Bool, true, false, _&&_, false≢true}
 use mathlib.Core.List.{List, [], _∷_, _++_}
@@ -14,7 +14,7 @@ use Rattle.line_hex.specs.Choice.{pick}
 use Rattle.line_hex.specs.Hex.{hexLine}
 use Rattle.line_hex.specs.Numbers.{AllBytes, bigEndian, numberFrom, numberOf}
 use Rattle.line_hex.specs.Decoding.{isLine, pairs}
-use Rattle.line_hex.proofs.Spelling.{all-bytes-pairs, line-only-spelling}
+use Rattle.line_hex.proofs.Spelling.{line-only-spelling}
 use Rattle.line_hex.proofs.Bytes.{all-bytes-drop, all-bytes-take}
 use Rattle.line_shape.specs.declared.Fields.{Fields}
 use Rattle.line_shape.specs.Reading as shapes
@@ -29,20 +29,9 @@ use Rattle.meaning.specs.Table.{greatestSize}
 use Rattle.meaning.specs.Operations.{valueLimit}
 use Rattle.words_layout.specs.Words.{wordLimit}
 
-pub heard-bytes : (line : List ℕ) → AllBytes (bytesOf line)
-unfolding bytesOf pairs
-heard-bytes line = by (isLine longest line)
-  where
-    none : AllBytes []
-    none = all-bytes-pairs 0 []
-
-    by : (b : Bool) → AllBytes (pick b (pairs longest line) [])
-    by true = all-bytes-pairs longest line
-    by false = none
-
-heard-spelt : (line : List ℕ) → (bytesOf line ≡ [] → ⊥) → hexLine (bytesOf line) ≡ line
+decoded-spelt : (line : List ℕ) → (bytesOf line ≡ [] → ⊥) → hexLine (bytesOf line) ≡ line
 unfolding bytesOf
-heard-spelt line some = by (isLine longest line) refl some
+decoded-spelt line some = by (isLine longest line) refl some
   where
     by : (b : Bool) → isLine longest line ≡ b → (pick b (pairs longest line) [] ≡ [] → ⊥) → hexLine (pick b (pairs longest line) []) ≡ line
     by true e n = line-only-spelling longest line e
@@ -55,7 +44,7 @@ line-some type fields more e = let none = ap length e in omega arith
 
 -- so the bytes of a line say which line it was
 pub line-said : (type : Line) (fields more line : List ℕ) → lineOf type fields more ≡ bytesOf line → line ≡ hexLine (lineOf type fields more)
-line-said type fields more line e = sym (ap hexLine e ∙ heard-spelt line (λ z. line-some type fields more (e ∙ z)))
+line-said type fields more line e = sym (ap hexLine e ∙ decoded-spelt line (λ z. line-some type fields more (e ∙ z)))
 
 -- a vector that was read has zeros behind it
 padded-by : (b : Bool) (stations : ℕ) (head found : List ℕ) → length found ≡ stations →
