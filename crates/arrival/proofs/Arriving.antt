@@ -2,7 +2,7 @@
 use mathlib.Core.Path.{_≡_, refl, sym, ap, _∙_}
 use mathlib.Core.Bool.{Bool, true, false, not}
 use mathlib.Core.List.{List, [], _∷_}
-use Prim.Native.Nat.{ℕ, suc, _+_, _*_, _≤_, _<_}
+use Prim.Native.Nat.{ℕ, suc, _+_, _≤_, _<_}
 use native.Mathlib.Numerals.{add-one}
 use native.Mathlib.Omega.{arith}
 use borrow.Author.Tests.{leb-true}
@@ -33,7 +33,6 @@ use Rattle.table_change.specs.Changes.{Opened, rowsLeft, totalsChanged, entryBe
 use Rattle.table_change.proofs.Changing.{opened}
 use Rattle.arrival.specs.Arrives.{Arrives, hasRoom, totalsWith}
 use Rattle.arrival.proofs.RowsAfter.{after-put, after-none, count-put, count-none}
-use Rattle.words_layout.specs.Words.{wordLimit}
 
 -- a table with one part changed keeps its shape
 pub well-rows : (t : Table) (rows : List Row) → Well t → Each (Shaped (t .header .size)) rows → Well (withRows t rows)

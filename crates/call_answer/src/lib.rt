@@ -1,9 +1,12 @@
 // What the station program answers to a line at a table that was checked, written as the one line of its answer.
 ghost use mathlib.Core.Path.{_≡_};
+ghost use mathlib.Core.List.{[], _∷_};
 ghost use Prim.Native.Nat.{_≤_};
 ghost use lib.ListN.{length};
 ghost use Rattle.table_rules.specs.Checked.{Checked};
 ghost use Rattle.line_put.specs.Writing.{lineWritten};
+ghost use Rattle.call_question.specs.AnswerBytes.{refusalBytes};
+ghost use Rattle.call_answer.specs.OutputLines.{lineOrEnd, printedAt};
 ghost use Rattle.call_answer.specs.Answering.{answerOn, frameRoom, issueAnswer, openedBytes, questionAnswer, receivedBytes, secondOpening, settledBytes, answeredAfter};
 use call_checked::Issued;
 use call_checked::Opened;
@@ -106,4 +109,31 @@ pub fn answer_line(space: &mut [u32], line: &[u8], kind: LineKind, out: &mut [u8
         LineKind::Saved => line_print::write_refusal(out, refusal_number::MISSHAPEN),
         LineKind::Unknown => line_print::write_refusal(out, refusal_number::MISSHAPEN),
     }
+}
+
+// What the station program answers: a line of so many characters, or nothing further.
+pub enum Answered {
+    Line(usize),
+    End,
+}
+
+// A line that was written is the answer; none is too long for the space.
+pub fn line_or_end(w: Written) -> Answered
+    ensures { λ r. ⌜ r ≡ lineOrEnd w ⌝ }
+{
+    match w {
+        Written::Characters(n) => Answered::Line(n),
+        Written::TooShort => Answered::End,
+    }
+}
+
+// A refusal is one line: for both programs.
+pub fn refuse_at(number: u32, k: usize, out: &mut [u8]) -> Answered
+    requires { ⌜ frameRoom ≤ length (now out) ⌝ }
+    ensures { λ r. ⌜ (r, now (out .exit)) ≡ printedAt (refusalBytes number ∷ []) k (now (out .entry)) ⌝ }
+{
+    if 0 < k {
+        return Answered::End;
+    }
+    line_or_end(line_print::write_refusal(out, number))
 }

@@ -1,27 +1,24 @@
 -- The station program's answer, way by way.
 use mathlib.Core.Path.{_≡_, refl, sym, ap, ap₂, _∙_, subst}
 use mathlib.Core.Bool.{Bool, true, false, _&&_}
-use mathlib.Core.List.{List, [], _∷_, _++_}
-use Prim.Native.Nat.{ℕ, zero, suc, _+_, _≤_, _<_}
+use mathlib.Core.List.{List, [], _∷_}
+use Prim.Native.Nat.{ℕ, zero, suc, _≤_}
 use native.Mathlib.Omega.{arith}
-use borrow.Author.Tests.{le-leb, ne-eqb}
+use borrow.Author.Tests.{ne-eqb}
 use lib.Dec.{eqb}
-use lib.ListN.{drop, length}
+use lib.ListN.{length}
 use Rattle.meaning.specs.Table.{isTable}
 use Rattle.meaning.proofs.Tests.{and-right, cases}
 use Rattle.words_layout.specs.Layout.{holdsTable, tableOf}
 use Rattle.table_rules.proofs.Checking.{checked}
 use Rattle.line_hex.specs.Choice.{pick}
-use Rattle.line_hex.specs.Hex.{hexLine}
 use Rattle.line_put.specs.Writing.{lineWritten}
 use Rattle.line_put.specs.declared.Written.{Written}
-use Rattle.line_put.specs.declared.Written.the-variants as written
 use Rattle.line_put.proofs.Whole.{length-hex-line}
 use Rattle.line_read.specs.Types.{printing, refused}
 use Rattle.line_read.specs.Named.{printingRead}
 use Rattle.line_print.specs.Printed.{printed}
 use Rattle.call_question.specs.AnswerBytes.{refusalBytes, longestAnswerBytes}
-use Rattle.call_question.proofs.Short.{refusal-long}
 use Rattle.form_write.specs.Forms.{formedOf, lineAt, lineInto, savedForm}
 use Rattle.form_write.proofs.Short.{Short, form-short}
 use Rattle.form_save.specs.Saving.{savedAs, savedBy, savedOn}
@@ -37,10 +34,11 @@ use Rattle.line_decode.specs.LineKinds.{kindOf}
 use Rattle.line_decode.specs.declared.LineKind.{LineKind}
 use Rattle.line_decode.specs.declared.LineKind.the-variants as kind
 use Rattle.line_decode.proofs.KindOfType.{shaped-type}
-use Rattle.calls.specs.declared.Answered.{Answered}
-use Rattle.calls.specs.declared.Answered.the-variants as answered
-use Rattle.calls.specs.Answers.{answeredBy, answerOf, firstAnswer, linesFor, printedAt, spaceAfter, longestAnswer}
-use Rattle.calls.specs.LineOrEnd.{lineOrEnd}
+use Rattle.call_answer.specs.declared.Answered.{Answered}
+use Rattle.call_answer.specs.declared.Answered.the-variants as answered
+use Rattle.calls.specs.Answers.{answeredBy, answerOf, firstAnswer, linesFor, spaceAfter, longestAnswer}
+use Rattle.call_answer.specs.OutputLines.{lineOrEnd, printedAt}
+use Rattle.call_answer.proofs.OutputLines.{only-later, only-line, said}
 
 -- before an accepted opening: an opening, or 14
 module _ (line words : List ℕ) where
@@ -88,34 +86,6 @@ answer-fits line words = by (holdsTable words) (λ h. answer-short words (checke
     by : (b : Bool) → (b ≡ true → length (answerOn (kindOf (typeOf line)) line words .0) ≤ longestAnswerBytes) → length (pick b (answerOn (kindOf (typeOf line)) line words) (firstAnswer (kindOf (typeOf line)) line words) .0) ≤ longestAnswerBytes
     by true f = f refl
     by false f = first-fits line words (kindOf (typeOf line))
-
--- a line that has room
-module _ (out bytes : List ℕ) (room : length (hexLine bytes) ≤ length out) where
-  said : lineWritten out bytes ≡ (written.Characters (length (hexLine bytes)), hexLine bytes ++ drop (length (hexLine bytes)) out)
-  unfolding lineWritten
-  said = rw (le-leb (length (hexLine bytes)) (length out) room) refl
-
-  only-line : (w : Written) (y : List ℕ) → (w, y) ≡ lineWritten out bytes → (lineOrEnd w, y) ≡ printedAt (bytes ∷ []) 0 out
-  unfolding lineOrEnd printedAt
-  only-line w y p = ap (λ (q : Written × List ℕ). (lineOrEnd (q .0), q .1)) (p ∙ said)
-
-only-later : (bytes out : List ℕ) (k : ℕ) → 0 < k → (answered.End, out) ≡ printedAt (bytes ∷ []) k out
-unfolding printedAt
-only-later bytes out zero h = absurd (omega arith)
-only-later bytes out (suc k) h = refl
-
--- a refusal
-module _ (number : ℕ) (out : List ℕ) (room : frameRoom ≤ length out) (k : ℕ) where
-  pub refused-later : 0 < k → (answered.End, out) ≡ printedAt (refusalBytes number ∷ []) k out
-  refused-later h = only-later (refusalBytes number) out k h
-
-  pub refused-first : k ≤ 0 → (w : Written) (y : List ℕ) → (w, y) ≡ printed out refused (number ∷ []) [] → (r : Answered) → r ≡ lineOrEnd w → (r, y) ≡ printedAt (refusalBytes number ∷ []) k out
-  unfolding printed refusalBytes
-  refused-first h w y p r e =
-      let z : k ≡ 0 = omega arith in
-      ap (λ (a : Answered). (a, y)) e
-      ∙ only-line out (refusalBytes number) (omega (arith, length-hex-line (refusalBytes number), refusal-long number)) w y p
-      ∙ ap (λ (i : ℕ). printedAt (refusalBytes number ∷ []) i out) (sym z)
 
 -- what saving tells of a form all of whose lines have room
 abbrev Formed-as : Saved → List ℕ → List (List ℕ) → ℕ → List ℕ → Type 0
@@ -235,10 +205,3 @@ module _ (line words out : List ℕ) (k : LineKind) (e : k ≡ kindOf (typeOf li
         rw (alone, zero-th) (ap₂ (λ (q : Answered × List ℕ) (l : List ℕ). (q .0, (l, q .1))) told space-is)
 
 -- how a line that was written is told
-pub told-line : (w : Written) (n : ℕ) → w ≡ written.Characters n → answered.Line n ≡ lineOrEnd w
-unfolding lineOrEnd
-told-line w n h = sym (ap lineOrEnd h)
-
-pub told-end : (w : Written) → w ≡ written.TooShort → answered.End ≡ lineOrEnd w
-unfolding lineOrEnd
-told-end w h = sym (ap lineOrEnd h)

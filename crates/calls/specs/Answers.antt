@@ -1,12 +1,10 @@
 -- What the station program prints for a line.
 use mathlib.Core.Bool.{_&&_}
-use mathlib.Core.List.{List, [], _∷_, _++_}
-use Prim.Native.Nat.{ℕ, zero, suc}
+use mathlib.Core.List.{List, [], _∷_}
+use Prim.Native.Nat.{ℕ}
 use lib.Dec.{eqb}
-use lib.ListN.{drop, length}
 use Rattle.words_layout.specs.Layout.{holdsTable, tableOf}
 use Rattle.line_hex.specs.Choice.{pick}
-use Rattle.line_hex.specs.Hex.{hexLine}
 use Rattle.line_read.specs.Types.{charactersOf}
 use Rattle.line_read.specs.Named.{printingRead}
 use Rattle.line_decode.specs.Decoding.{bytesOf, typeOf}
@@ -17,8 +15,8 @@ use Rattle.form_write.specs.Forms.{savedForm}
 use Rattle.call_question.specs.AnswerBytes.{refusalBytes, longestAnswerBytes}
 use Rattle.call_checked.specs.Called.{openedBy}
 use Rattle.call_answer.specs.Answering.{answerOn, changing, openedBytes}
-use Rattle.calls.specs.declared.Answered.{Answered}
-use Rattle.calls.specs.declared.Answered.the-variants as answered
+use Rattle.call_answer.specs.OutputLines.{printedAt}
+use Rattle.call_answer.specs.declared.Answered.{Answered}
 
 -- "A line before an accepted opening gets `ff0e`, unless it is itself of type `10`": the bytes of the answer, and the space afterwards.
 unfoldable pub firstAnswer : LineKind → List ℕ → List ℕ → List ℕ × List ℕ
@@ -39,12 +37,6 @@ answerOf line words = pick (holdsTable words) (answerOn (kindOf (typeOf line)) l
 unfoldable pub linesFor : List ℕ → List ℕ → List (List ℕ)
 linesFor line words =
     pick (holdsTable words && printingRead (bytesOf line)) (savedForm (tableOf words)) (answerOf line words .0 ∷ [])
-
--- A line at the front of the space for it: "Bytes of a space beyond a result stay." Behind the last there is none.
-unfoldable pub printedAt : List (List ℕ) → ℕ → List ℕ → Answered × List ℕ
-printedAt [] place out = (answered.End, out)
-printedAt (bytes ∷ rest) zero out = (answered.Line (length (hexLine bytes)), hexLine bytes ++ drop (length (hexLine bytes)) out)
-printedAt (bytes ∷ rest) (suc place) out = printedAt rest place out
 
 -- The table space: the first output line is given when the input line is taken.
 unfoldable pub spaceAfter : List ℕ → ℕ → List ℕ → List ℕ

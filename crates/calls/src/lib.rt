@@ -1,17 +1,16 @@
 // The public calls over a lent table space and a lent line. Each tries its refusals in 01's order, and a refusal changes nothing.
 ghost use mathlib.Core.Path.{_≡_};
 ghost use Rattle.call_checked.specs.Called.{openedBy};
-ghost use mathlib.Core.List.{[], _∷_};
 ghost use Prim.Native.Nat.{_≤_};
 ghost use lib.ListN.{length};
 ghost use Rattle.line_decode.specs.Decoding.{typeOf};
 ghost use Rattle.line_decode.specs.LineKinds.{kindOf};
 ghost use Rattle.form_save.specs.Saving.{savedBy};
-ghost use Rattle.call_question.specs.AnswerBytes.{refusalBytes};
 ghost use Rattle.call_answer.specs.Answering.{frameRoom, answeredAfter};
 ghost use Rattle.calls.specs.Calls.{fallen, issuedBy, receivedBy, repliedBy, settledBy};
-ghost use Rattle.calls.specs.Answers.{answeredBy, answerOf, linesFor, longestAnswer, printedAt};
-ghost use Rattle.calls.specs.LineOrEnd.{lineOrEnd};
+ghost use Rattle.calls.specs.Answers.{answeredBy, answerOf, linesFor, longestAnswer};
+ghost use Rattle.call_answer.specs.OutputLines.{printedAt};
+use call_answer::Answered;
 use call_checked::Issued;
 use call_checked::Opened;
 use call_checked::Received;
@@ -89,12 +88,6 @@ pub fn longest_answer() -> usize
     LONGEST_ANSWER
 }
 
-// What the station program answers: a line of so many characters, or nothing further.
-pub enum Answered {
-    Line(usize),
-    End,
-}
-
 // The one line that a line of this kind is answered with; before an accepted opening, 14 unless it is itself an opening.
 fn answer_first(space: &mut [u32], line: &[u8], kind: LineKind, out: &mut [u8]) -> Written
     requires { ⌜ (kind ≡ kindOf (typeOf (now line))) × (frameRoom ≤ length (now out)) ⌝ }
@@ -109,27 +102,6 @@ fn answer_first(space: &mut [u32], line: &[u8], kind: LineKind, out: &mut [u8]) 
     line_print::write_refusal(out, NO_TABLE)
 }
 
-// A line that was written is the answer; none is too long for the space.
-fn line_or_end(w: Written) -> Answered
-    ensures { λ r. ⌜ r ≡ lineOrEnd w ⌝ }
-{
-    match w {
-        Written::Characters(n) => Answered::Line(n),
-        Written::TooShort => Answered::End,
-    }
-}
-
-// A refusal is one line: for both programs.
-pub fn refuse_at(number: u32, k: usize, out: &mut [u8]) -> Answered
-    requires { ⌜ frameRoom ≤ length (now out) ⌝ }
-    ensures { λ r. ⌜ (r, now (out .exit)) ≡ printedAt (refusalBytes number ∷ []) k (now (out .entry)) ⌝ }
-{
-    if 0 < k {
-        return Answered::End;
-    }
-    line_or_end(line_print::write_refusal(out, number))
-}
-
 // The k-th line for a line of type `60`: of the saved form, or of a refusal.
 fn answer_printing(space: &[u32], line: &[u8], k: usize, out: &mut [u8]) -> Answered
     requires { ⌜ (kindOf (typeOf (now line)) ≡ LineKind.Printing) × (frameRoom ≤ length (now out)) ⌝ }
@@ -138,7 +110,7 @@ fn answer_printing(space: &[u32], line: &[u8], k: usize, out: &mut [u8]) -> Answ
     match save_line(space, line, k, out) {
         Saved::Line(n) => Answered::Line(n),
         Saved::End => Answered::End,
-        Saved::Refused(number) => refuse_at(number, k, out),
+        Saved::Refused(number) => call_answer::refuse_at(number, k, out),
     }
 }
 
@@ -151,7 +123,7 @@ pub fn answer(space: &mut [u32], line: &[u8], k: usize, out: &mut [u8; LONGEST_A
         return answer_printing(space, line, k, out);
     }
     if k == 0 {
-        return line_or_end(answer_first(space, line, kind, out));
+        return call_answer::line_or_end(answer_first(space, line, kind, out));
     }
     Answered::End
 }

@@ -2,7 +2,7 @@
 use mathlib.Core.Path.{_≡_, refl, sym, ap, _∙_}
 use mathlib.Core.Bool.{true}
 use mathlib.Core.List.{List, [], _∷_}
-use Prim.Native.Nat.{ℕ, _≤_, _<_}
+use Prim.Native.Nat.{ℕ, _≤_}
 use native.Mathlib.Omega.{arith}
 use lib.ListN.{length, replicate, length-replicate}
 use Rattle.words_layout.specs.Layout.{holdsTable, tableOf}
@@ -15,9 +15,10 @@ use Rattle.line_read.specs.Named.{printingRead}
 use Rattle.line_decode.specs.Decoding.{bytesOf}
 use Rattle.form_write.specs.Forms.{savedForm, mostFormLines}
 use Rattle.call_question.specs.AnswerBytes.{refusalBytes}
-use Rattle.calls.specs.declared.Answered.{Answered}
-use Rattle.calls.specs.declared.Answered.the-variants as answered
-use Rattle.calls.specs.Answers.{answeredBy, linesFor, printedAt}
+use Rattle.call_answer.specs.declared.Answered.{Answered}
+use Rattle.call_answer.specs.declared.Answered.the-variants as answered
+use Rattle.calls.specs.Answers.{answeredBy, linesFor}
+use Rattle.call_answer.specs.OutputLines.{printedAt}
 use Rattle.calls.proofs.Counting.{lines-count}
 use Rattle.calls.proofs.Answering.{printing-kind, printing-stays}
 use Rattle.form_judge.specs.declared.Judged.{Judged}

@@ -5,8 +5,9 @@ use Rattle.call_question.specs.AnswerBytes.{refusalBytes}
 use Rattle.form_take.specs.declared.Loaded.{Loaded}
 use Rattle.form_take.specs.declared.Loaded.the-variants as loaded
 use Rattle.form_load.specs.Loading.{loadedBy, loadEnded}
-use Rattle.calls.specs.declared.Answered.{Answered}
-use Rattle.calls.specs.Answers.{linesFor, printedAt}
+use Rattle.call_answer.specs.declared.Answered.{Answered}
+use Rattle.calls.specs.Answers.{linesFor}
+use Rattle.call_answer.specs.OutputLines.{printedAt}
 use Rattle.form_judge.specs.declared.Judged.{Judged}
 use Rattle.form_judge.specs.declared.Judged.the-variants as judged
 

@@ -1,8 +1,7 @@
 // A saved form judged a line at a time: whether it is one, and what the second program prints in the end. Any words will do, and any line.
 ghost use mathlib.Core.Path.{_≡_};
-ghost use mathlib.Core.List.{[], _∷_};
 ghost use Rattle.form_judge.specs.Judging.{judgedAs, judgedBy, judgedEnd, resavedBy};
-use calls::Answered;
+use call_answer::Answered;
 use form_take::Loaded;
 use refusal_number::WRONG;
 
@@ -64,6 +63,6 @@ pub fn resave(
     match before {
         Judged::Open => Answered::End,
         Judged::Closed => calls::answer(space, &PRINT, k, out),
-        Judged::Refused(number) => calls::refuse_at(number, k, out),
+        Judged::Refused(number) => call_answer::refuse_at(number, k, out),
     }
 }

@@ -1,26 +1,23 @@
 -- The parts of a table, read from its words, make the lines of its form.
 use mathlib.Core.Path.{_≡_, refl, sym, ap, _∙_}
-use mathlib.Core.Bool.{true, _||_, cond}
+use mathlib.Core.Bool.{cond}
 use mathlib.Core.List.{List, [], _∷_, map, List·Memᴰ, List·Memᴰ·head, List·Memᴰ·tail}
 use Prim.Native.Nat.{ℕ, zero, suc, _+_, _-_, _*_, _≤_, _<_}
-use native.Mathlib.Nat.{suc-mul, zero-mul, mul-le-mul-right}
+use native.Mathlib.Nat.{suc-mul, mul-le-mul-right}
 use native.Mathlib.Omega.{arith}
-use borrow.Author.Tests.{eqb-true, ltb-true, ne-eqb}
+use borrow.Author.Tests.{ne-eqb}
 use mir.Val.{Fits}
 use mir.Syntax.{w64}
 use lib.Dec.{eqb}
 use lib.IntN.{pos}
 use lib.ListN.{length, getD, take, drop, length-map}
 use lib.Seq.{drop-drop, getD-take, getD-drop, take-nil}
-use Rattle.meaning.specs.Operations.{isCounter, isFlag, clears, valueAllowed, valueLimit, greatestAmount}
-use Rattle.meaning.specs.Rows.{Row}
-use Rattle.meaning.specs.Table.{Table, isTable, kindIn}
+use Rattle.meaning.specs.Operations.{valueLimit}
 use Rattle.meaning.specs.Questions.{byRows}
-use Rattle.meaning.proofs.Tests.{cases, between-out}
-use Rattle.meaning.proofs.TableFacts.{facts}
-use Rattle.words_layout.specs.Words.{padded, pieces}
-use Rattle.words_layout.specs.Layout.{tableOf, totalWords, rowOf, rowWords, rowsAt, rowWidth, rowsIn, sizeIn, objectsIn, countIn, clockAt, mostRowWords}
-use Rattle.words_layout.proofs.Pieces.{Each, length-pieces}
+use Rattle.meaning.proofs.TableFacts.{row-small}
+use Rattle.words_layout.specs.Words.{padded}
+use Rattle.words_layout.specs.Layout.{tableOf, totalWords, rowOf, rowWords, rowsAt, rowWidth, rowsIn, sizeIn, objectsIn, countIn, clockAt, mostBeforeRows, mostRowWords}
+use Rattle.words_layout.proofs.Pieces.{Each, length-pieces, piece-at}
 use Rattle.words_layout.proofs.Whole.{each-spelt}
 use Rattle.table_rules.specs.Checked.{Checked}
 use Rattle.line_read.specs.Types.{opening, clock, lastVector, total, row, closing}
@@ -29,14 +26,7 @@ use Rattle.line_put.specs.declared.Written.{Written}
 use Rattle.line_print.specs.Printed.{printed}
 use Rattle.form_lines.specs.FormLines.{openingLine, clockLine, lastLine, totalLine, rowLine, rowLineAt, closingLine}
 
--- pieces one by one
-pub piece-at : (w count k : ℕ) (s : List ℕ) → k < count → getD (pieces w count s) k [] ≡ take w (drop (k * w) s)
-piece-at w zero k s h = absurd (omega arith)
-piece-at w (suc count) zero s h = let z : 0 * w ≡ 0 = zero-mul w in rw z refl
-piece-at w (suc count) (suc k) s h =
-    let e : suc k * w ≡ w + k * w = omega (arith, suc-mul k w) in
-    rw e (piece-at w count k (drop w s) (omega arith) ∙ ap (take w) (drop-drop (k * w) w s))
-
+-- parts of lists one by one
 each-at : {A : Type 0} (P : A → Type 0) (l : List A) → Each P l → (k : ℕ) (d : A) → k < length l → P (getD l k d)
 each-at P [] h k d b = absurd (omega arith)
 each-at P (x ∷ l) h zero d b = h .0
@@ -56,18 +46,6 @@ drop-of-take : (k n : ℕ) (l : List ℕ) → drop k (take (k + n) l) ≡ take n
 drop-of-take zero n l = let z : 0 + n ≡ n = omega arith in rw z refl
 drop-of-take (suc k) n [] = let e : suc k + n ≡ suc (k + n) = omega arith in rw e (sym (take-nil n))
 drop-of-take (suc k) n (x ∷ l) = let e : suc k + n ≡ suc (k + n) = omega arith in rw e (drop-of-take k n l)
-
--- "Other values are any 32-bit number"
-value-small : (kind code value : ℕ) → valueAllowed kind code value ≡ true → value < valueLimit
-unfolding valueAllowed
-value-small kind code value h = cases (isCounter kind)
-    (λ q. omega (arith, between-out 1 greatestAmount value (rw q at h) .1))
-    (λ q. let h1 = rw q at h in cases (isFlag kind || eqb code clears)
-    (λ p. omega (arith, eqb-true value 0 (rw p at h1)))
-    (λ p. ltb-true value valueLimit (rw p at h1)))
-
-pub row-small : (table : Table) → isTable table ≡ true → (r : Row) → List·Memᴰ r (table .rows) → r .operation .value < valueLimit
-row-small table h r m = value-small (kindIn (table .header) (r .operation .object)) (r .operation .code) (r .operation .value) (facts table h .row-facts r m .value-allowed)
 
 -- the lines of a part that stands as it is
 module _ (s out : List ℕ) (n : ℕ) where
@@ -130,10 +108,7 @@ module _ (s : List ℕ) (K : Checked s) (k n i : ℕ) (h : k < sizeIn s) (en : n
 
 -- where a row starts
 module _ (s : List ℕ) (K : Checked s) (k : ℕ) (h : k < countIn s) where
-  module _ (n i : ℕ) (en : n ≡ sizeIn s) (ei : i ≡ k) where
-    square-small : n * n ≤ 256
-    square-small = rw en (K .square)
-
+  module _ (n i start : ℕ) (en : n ≡ sizeIn s) (ei : i ≡ k) (es : start ≡ rowsAt n) where
     rows-small : i * (7 + n) + (7 + n) ≤ countIn s * (7 + n)
     rows-small = let m : suc i * (7 + n) ≤ countIn s * (7 + n) = mul-le-mul-right (7 + n) (omega arith) in omega (arith, suc-mul i (7 + n))
 
@@ -143,14 +118,14 @@ module _ (s : List ℕ) (K : Checked s) (k : ℕ) (h : k < countIn s) where
     pub ahead-fits : Fits w64 (i * (7 + n))
     ahead-fits = omega (arith, rows-small, area)
 
-    pub row-at-fits : Fits w64 (clockAt + n + n * n + i * (7 + n))
-    row-at-fits = omega (arith, rows-small, area, square-small, K .few, en)
+    pub row-at-fits : start ≤ mostBeforeRows → Fits w64 (start + i * (7 + n))
+    row-at-fits early = omega (arith, rows-small, area)
 
-    pub row-at-is : clockAt + n + n * n + i * (7 + n) ≡ rowsAt (sizeIn s) + k * rowWidth (sizeIn s)
-    row-at-is = rw (en, ei) refl
+    pub row-at-is : start + i * (7 + n) ≡ rowsAt (sizeIn s) + k * rowWidth (sizeIn s)
+    row-at-is = rw (es, en, ei) refl
 
-    pub row-at-room : clockAt + n + n * n + i * (7 + n) + rowWidth (sizeIn s) ≤ length s
-    row-at-room = omega (arith, rows-small, rw (sym en) at (K .room), en)
+    pub row-at-room : start + i * (7 + n) + rowWidth (sizeIn s) ≤ length s
+    row-at-room = omega (arith, rows-small, es, rw (sym en) at (K .room), en)
 
   -- the words of the row
   abbrev at : ℕ

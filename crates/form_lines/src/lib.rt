@@ -84,8 +84,7 @@ fn row_at(space: &[u32], ahead: RowCount) -> usize
     ensures { λ r. ⌜ (r ≡ rowsAt (sizeIn (now (space .entry))) + ahead .0 * rowWidth (sizeIn (now (space .entry)))) × (r + rowWidth (sizeIn (now (space .entry))) ≤ length (now (space .entry))) ⌝ }
 {
     let size = words_tags::wide(space[SIZE_AT]);
-    let start = CLOCK_AT + size + size * size;
-    start + words_tags::wide(ahead.0) * (KEY + size)
+    table_ranges::rows_at(size) + words_tags::wide(ahead.0) * (KEY + size)
 }
 
 // `53`, from the row behind so many others: its words in another order, and its vector where it stands.

@@ -13,13 +13,11 @@ use words_layout::CLOCK_AT;
 use words_layout::COUNT_AT;
 use words_layout::KEY;
 use words_layout::KINDS_AT;
+use words_layout::NO_HIGH;
 use words_layout::OBJECTS_AT;
 use words_layout::SIZE_AT;
 use words_tags::RowCount;
 use words_tags::Station;
-
-// The high word of a value.
-const HIGH: u32 = 0;
 
 // The words of the row that a line says; behind them stands what its array has beyond the group's entries.
 pub fn row_words(f: Row, size: usize) -> [u32; words_layout::WIDEST]
@@ -31,7 +29,7 @@ pub fn row_words(f: Row, size: usize) -> [u32; words_layout::WIDEST]
     let unsettled = line_read::SETTLED_BYTE - f.settled;
     let key = [
         f.object,
-        HIGH,
+        NO_HIGH,
         f.value,
         f.code,
         unsettled,

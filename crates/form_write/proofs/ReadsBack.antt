@@ -7,7 +7,7 @@ use Prim.Native.Nat.{ℕ, zero, suc, _-_, _/_, _%_, _^_, _≤_, _<_}
 use native.Mathlib.Omega.{arith}
 use borrow.Author.Tests.{eqb-true, leb-true, ltb-true, ltb-false}
 use lib.Dec.{eqb, leb, ltb}
-use lib.IntN.{ℤ, pos, negsuc}
+use lib.IntN.{ℤ}
 use lib.ListN.{length, getD, drop, replicate, length-replicate}
 use Rattle.meaning.specs.Tests.{any, every}
 use Rattle.meaning.specs.Order.{Vector, entryLimit, atMost, same}
@@ -28,7 +28,8 @@ use Rattle.line_read.proofs.Taken.{opening-reads-back, opening-kinds-read-back}
 use Rattle.line_read.specs.SavedNamed.{clockRead, lastRead, totalRead, rowRead, closingRead}
 use Rattle.line_read.proofs.SavedNamed.{clock-reads-back, last-reads-back, total-reads-back, row-reads-back, closing-reads-back}
 use Rattle.form_lines.specs.FormLines.{openingLine, clockLine, lastLine, totalLine, rowLine, closingLine}
-use Rattle.form_lines.proofs.Parts.{row-small}
+use Rattle.meaning.proofs.TableFacts.{row-small}
+use Rattle.words_layout.proofs.Changing.{code-fits}
 
 -- every entry of a list is below a limit; what is behind its end is 0
 abbrev pub Below : ℕ → List ℕ → Type 0
@@ -91,11 +92,6 @@ codes-low kind = low-at ([] ∷ (1 ∷ []) ∷ (1 ∷ 2 ∷ []) ∷ (1 ∷ []) �
 code-low : (kind code : ℕ) → codeAllowed kind code ≡ true → code ≤ 3
 unfolding codeAllowed
 code-low kind code h = low-any code (codesOf kind) (codes-low kind) h
-
-code-fits : (z : ℤ) → complement z < 18446744073709551616
-unfolding complement
-code-fits (pos n) = omega arith
-code-fits (negsuc n) = omega arith
 
 module _ (t : Table) (h : isTable t ≡ true) where
   abbrev size : ℕ

@@ -27,10 +27,11 @@ use Rattle.call_question.specs.AnswerBytes.{listBytes, refusalBytes, replyBytes
 use Rattle.call_checked.specs.Called.{frameBytes, frameOf, headerRead, localOf, openedAs, openedBy, receivedAs, receivedOn, settledAs, settledOn}
 use Rattle.call_answer.specs.Answering.{answerOn, doneBytes, issueAnswer, issuedBytes, openedBytes, questionAnswer, receivedBytes, secondOpening, settledBytes}
 use lib.ListN.{length, take}
-use Rattle.calls.specs.declared.Answered.{Answered}
-use Rattle.calls.specs.declared.Answered.the-variants as answered
+use Rattle.call_answer.specs.declared.Answered.{Answered}
+use Rattle.call_answer.specs.declared.Answered.the-variants as answered
 use Rattle.line_read.specs.Named.{printingRead}
-use Rattle.calls.specs.Answers.{answerOf, firstAnswer, answeredBy, linesFor, longestAnswer, printedAt, spaceAfter}
+use Rattle.calls.specs.Answers.{answerOf, firstAnswer, answeredBy, linesFor, longestAnswer, spaceAfter}
+use Rattle.call_answer.specs.OutputLines.{printedAt}
 use Rattle.law_agreement.specs.Lines.{linesAfter}
 
 -- What is printed for these lines, given one after the other, the first first: for each its output lines.

@@ -5,7 +5,7 @@ use mathlib.Core.List.{List, [], _∷_, map}
 use Prim.Native.Nat.{ℕ, zero, suc, _+_, _-_, _≤_, _<_}
 use native.Mathlib.Omega.{arith}
 use lib.Dec.{eqb, leb}
-use lib.IntN.{ℤ, pos, negsuc, natAbs}
+use lib.IntN.{ℤ, pos, natAbs}
 use lib.ListN.{getD, length, drop, replicate, length-replicate, getD-replicate, drop-of-length-le}
 use lib.Seq.{drop-cons}
 use borrow.Author.Tests.{eq-eqb, eqb-true, eqb-false, ne-eqb, le-leb, lt-leb, lt-ltb, le-ltb, leb-true, leb-false}
@@ -41,6 +41,7 @@ use Rattle.law_round_trip.specs.Restoring.{takesAll}
 use Rattle.law_round_trip.proofs.Under.{Fresh, under}
 use Rattle.law_round_trip.proofs.Steps.{clock-step, last-step, total-step}
 use Rattle.law_round_trip.proofs.Mixed.{mixed, mixed-set, mixed-same, mixed-whole, length-mixed, each-mixed, first-taken}
+use Rattle.meaning.proofs.Agreement.{no-amount}
 
 -- the lines are bytes
 pub clock-bytes : (v : Vector) → AllBytes (clockLine v)
@@ -108,10 +109,6 @@ counter-found (kind ∷ kinds) o (suc k) =
     rw e (cases (isCounter kind)
     (λ q. let less : suc (counters kinds k) - 1 ≡ counters kinds k = omega arith in rw (q, ne-eqb (suc (counters kinds k)) 0 (λ z. omega (arith, z)), less) (counter-found kinds (suc o) k))
     (λ q. rw q (counter-found kinds (suc o) k)))
-
-no-amount : (z : ℤ) → natAbs z ≡ 0 → z ≡ pos 0
-no-amount (pos n) e = ap pos e
-no-amount (negsuc n) e = absurd (omega arith)
 
 module _ (t : Table) (is : isTable t ≡ true) (rest : List ℕ) where
   F : Facts t

@@ -18,7 +18,7 @@ use Rattle.words_layout.specs.Layout.{rowOf, rowWords, spaceFor, wordsOf}
 use Rattle.words_layout.proofs.Pieces.{Each, map-back}
 use Rattle.words_layout.proofs.RowWords.{Shaped, row-read}
 use Rattle.words_layout.proofs.Whole.{length-padded}
-use Rattle.words_layout.proofs.Reading.{Well}
+use Rattle.words_layout.proofs.Reading.{Well, rows-back as each-back}
 use Rattle.arrival.proofs.Kept.{well-table}
 use Rattle.table_rules_rows.specs.RowTests.{chained, follows, rowKept}
 use Rattle.table_rules_rows.proofs.RowMeaning.{rule-kept}
@@ -39,7 +39,7 @@ use Rattle.line_decode.specs.declared.LineKind.the-variants as kind
 use Rattle.line_decode.proofs.Decoding.{bytes-back}
 use Rattle.line_read.specs.SavedNamed.{closingRead, rowRead}
 use Rattle.form_lines.specs.FormLines.{openingLine, clockLine, rowLine, closingLine}
-use Rattle.form_lines.proofs.Parts.{row-small}
+use Rattle.meaning.proofs.TableFacts.{row-small}
 use Rattle.form_write.specs.Forms.{lastLines, rowLines, savedForm, totalLines}
 use Rattle.form_write.proofs.Short.{closing-short, opening-short, row-short}
 use Rattle.form_write.proofs.ReadsBack.{closing-back, kinds-back, opening-back, row-back, row-known}
@@ -87,12 +87,8 @@ pub readable : (size : ℕ) (rows : List Row) → Each (Shaped size) rows → Ea
 readable size [] e = tt
 readable size (r ∷ rows) e = (record { long = omega arith; low = omega arith; written = ap (rowWords size) (row-read size r (e .0)) }, readable size rows (e .1))
 
-back-each : (size : ℕ) (rows : List Row) → Each (Shaped size) rows → Each (λ (r : Row). rowOf (rowWords size r) ≡ r) rows
-back-each size [] e = tt
-back-each size (r ∷ rows) e = (row-read size r (e .0), back-each size rows (e .1))
-
 pub rows-back : (size : ℕ) (rows : List Row) → Each (Shaped size) rows → map rowOf (map (rowWords size) rows) ≡ rows
-rows-back size rows e = map-back (rowWords size) rowOf rows (back-each size rows e)
+rows-back size rows e = map-back (rowWords size) rowOf rows (each-back size rows e)
 
 -- the lines are bytes
 row-bytes : (n : ℕ) (r : Row) → AllBytes (rowLine n r)

@@ -28,7 +28,7 @@ use Rattle.line_read.specs.declared.Row as saved
 use Rattle.line_read.specs.declared.Closing.{Closing}
 use Rattle.line_read.specs.SavedNamed.{closingRead, rowRead}
 use Rattle.line_decode.specs.Decoding.{bytesOf}
-use Rattle.form_lines.proofs.Parts.{piece-at}
+use Rattle.words_layout.proofs.Pieces.{piece-at}
 use Rattle.form_take.specs.declared.Loaded.the-variants as loaded
 use Rattle.form_load.specs.declared.Next.the-variants as next
 use Rattle.form_row.specs.Joining.{joined, joins, lastRow, rowPlace, rowSaid}

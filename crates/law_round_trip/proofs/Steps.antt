@@ -12,9 +12,9 @@ use lib.Seq.{paste, take-at}
 use borrow.Author.Tests.{eq-eqb}
 use Rattle.meaning.specs.Order.{Vector}
 use Rattle.meaning.specs.Table.{Table, totalBound, greatestSize, mostObjects}
-use Rattle.words_layout.specs.Words.{wordLimit, complement, ofComplement}
+use Rattle.words_layout.specs.Words.{wordLimit, complement}
 use Rattle.words_layout.specs.Layout.{Laid, tableOf, wordsOf, rewritten, withClock, withLast, withTotals, totalWords, totalOfWords, sizeIn, clockAt, totalsAt}
-use Rattle.words_layout.proofs.Reading.{InRange, table-read, total-read}
+use Rattle.words_layout.proofs.Reading.{InRange, table-read, two-read}
 use Rattle.words_layout.proofs.Changing.{laid-again, put-clock, put-last, put-total}
 use Rattle.table_rules_clock.specs.ClockTests.{lastKept, totalKept}
 use Rattle.line_hex.specs.Choice.{pick}
@@ -34,12 +34,6 @@ use Rattle.law_round_trip.proofs.Under.{Fresh, under, size-is, own-is, 
 pub front-of : (v : List ℕ) (n : ℕ) → length v ≡ n → take n (shapes.padded greatestSize v) ≡ v
 unfolding shapes.padded
 front-of v n e = take-at v (replicate (greatestSize - length v) 0) n e
-
--- the words of a total that 64 bits hold say it
-total-back : (z : ℤ) → InRange z → totalOfWords (totalWords z) ≡ z
-total-back z range =
-    let whole : complement z / wordLimit * wordLimit + complement z % wordLimit ≡ complement z = omega arith in
-    ap ofComplement whole ∙ total-read z range
 
 module _ (t : Table) (F : Fresh t) (rest : List ℕ) (p : ℕ) (line : List ℕ) (none : length (t .rows) ≡ 0) where
   abbrev plain : List ℕ
@@ -94,7 +88,7 @@ module _ (t : Table) (F : Fresh t) (rest : List ℕ) (p : ℕ) (line : List ℕ)
       let at = totalsAt + o * 2 in
       let few : length (t .header .kinds) ≤ mostObjects = F .well .fit .few-kinds in
       let put : paste plain at (totalWords z) 2 ≡ rewritten plain (withTotals t (set (t .totals) o z)) = pasted plain (totalWords z) at 2 refl ∙ put-total plain L o z b ∙ ap (λ (u : Table). rewritten plain (withTotals u (set (u .totals) o z))) back in
-      let same : totalOfWords (totalWords z) ≡ z = total-back z range in
+      let same : totalOfWords (totalWords z) ≡ z = two-read z range in
       taken-by t F rest p line (next.Total o) c no-rows
       ∙ rw (kinds-are t F rest p, clock-is t F rest p)
       (ap (λ (f : Total). pick (f .ok && (eqb (f .object) o && totalKept (totalBound (t .clock)) (getD (t .header .kinds) o 0) (totalOfWords (f .high ∷ f .low ∷ [])))) (took words at (f .high ∷ f .low ∷ [])) (spoilt words)) e

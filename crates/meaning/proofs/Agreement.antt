@@ -181,7 +181,7 @@ module _ (here there : Station) (kinds : (o : ℕ) → kindIn (here .table .head
 clock-below : (here there : Station) → Faithful here → Faithful there → Within (here .accepted) (there .accepted) → (s : ℕ) → getD (here .table .clock) s 0 ≤ getD (there .table .clock) s 0
 clock-below here there G G′ to s = ⊎-elim (λ z. omega arith) (λ x. let k = at-most-at (x .0 .vector) (there .table .clock) (G′ .bound (x .0) (to (x .0) (x .1))) s in let e = x .2 in omega arith) (G .heard s)
 
-no-amount : (z : ℤ) → natAbs z ≡ 0 → z ≡ pos 0
+pub no-amount : (z : ℤ) → natAbs z ≡ 0 → z ≡ pos 0
 no-amount (pos n) e = ap pos e
 no-amount (negsuc n) e = absurd (omega arith)
 

@@ -16,9 +16,10 @@ use Rattle.line_decode.specs.Decoding.{bytesOf}
 use Rattle.form_write.specs.Forms.{savedForm}
 use Rattle.form_write.proofs.Short.{Short, form-short}
 use Rattle.call_answer.proofs.Short.{refusal-short}
-use Rattle.calls.specs.declared.Answered.{Answered}
-use Rattle.calls.specs.declared.Answered.the-variants.{Line, End}
-use Rattle.calls.specs.Answers.{answeredBy, answerOf, linesFor, longestAnswer, printedAt}
+use Rattle.call_answer.specs.declared.Answered.{Answered}
+use Rattle.call_answer.specs.declared.Answered.the-variants.{Line, End}
+use Rattle.calls.specs.Answers.{answeredBy, answerOf, linesFor, longestAnswer}
+use Rattle.call_answer.specs.OutputLines.{printedAt}
 use Rattle.calls.proofs.Answering.{answer-fits}
 use Rattle.form_judge.specs.declared.Judged.{Judged}
 use Rattle.form_judge.specs.declared.Judged.the-variants as judged

@@ -10,9 +10,10 @@ use lib.Seq.{append-snoc, drop-cons, drop-set-lt, take-at, take-suc-set}
 use Rattle.line_hex.specs.Hex.{hexLine}
 use Rattle.line_hex.specs.Keeping.{kept, keptAll}
 use Rattle.line_hex.proofs.Keeping.{kept-room}
-use Rattle.calls.specs.declared.Answered.{Answered}
-use Rattle.calls.specs.declared.Answered.the-variants.{Line, End}
-use Rattle.calls.specs.Answers.{longestAnswer, printedAt}
+use Rattle.call_answer.specs.declared.Answered.{Answered}
+use Rattle.call_answer.specs.declared.Answered.the-variants.{Line, End}
+use Rattle.calls.specs.Answers.{longestAnswer}
+use Rattle.call_answer.specs.OutputLines.{printedAt}
 use Rattle.program_output.specs.Gathering.{Gathered, gathered, HasRoom, joined, pushed}
 
 -- where there is room every character is kept

@@ -13,9 +13,10 @@ use Rattle.line_hex.specs.Choice.{pick}
 use Rattle.line_read.specs.Named.{printingRead}
 use Rattle.line_decode.specs.Decoding.{bytesOf}
 use Rattle.form_write.specs.Forms.{savedForm, mostFormLines}
-use Rattle.calls.specs.declared.Answered.{Answered}
-use Rattle.calls.specs.declared.Answered.the-variants.{Line, End}
-use Rattle.calls.specs.Answers.{answerOf, answeredBy, linesFor, printedAt, spaceAfter}
+use Rattle.call_answer.specs.declared.Answered.{Answered}
+use Rattle.call_answer.specs.declared.Answered.the-variants.{Line, End}
+use Rattle.calls.specs.Answers.{answerOf, answeredBy, linesFor, spaceAfter}
+use Rattle.call_answer.specs.OutputLines.{printedAt}
 use Rattle.calls.proofs.Answering.{printing-kind, printing-stays}
 use Rattle.calls.proofs.Counting.{lines-count}
 use Rattle.form_judge.specs.declared.Judged.{Judged}

@@ -5,7 +5,7 @@ use lib.Dec.{leb}
 use lib.ListN.{drop, length, take}
 use Rattle.line_hex.specs.Choice.{pick}
 use Rattle.line_hex.specs.Hex.{hexLine}
-use Rattle.calls.specs.declared.Answered.{Answered}
+use Rattle.call_answer.specs.declared.Answered.{Answered}
 use Rattle.calls.specs.Answers.{answeredBy, answerOf, linesFor, longestAnswer}
 use Rattle.form_judge.specs.declared.Judged.{Judged}
 use Rattle.form_judge.specs.Judging.{resavedBy, resavedLines}

@@ -4,7 +4,7 @@ ghost use Prim.Native.Nat.{_+_, _≤_};
 ghost use lib.ListN.{length};
 ghost use Rattle.calls.specs.Answers.{longestAnswer};
 ghost use Rattle.program_output.specs.Gathering.{HasRoom, joined, lineAt, pushed, put};
-use calls::Answered;
+use call_answer::Answered;
 use form_judge::Judged;
 use libc::STDOUT_FILENO;
 

@@ -2,31 +2,17 @@
 use mathlib.Core.Path.{_≡_, refl, sym, ap, _∙_}
 use mathlib.Core.Bool.{Bool}
 use mathlib.Core.List.{List, map}
-use Prim.Native.Nat.{ℕ, _+_, _-_, _*_, _≤_}
+use Prim.Native.Nat.{ℕ, _-_, _*_, _≤_}
 use native.Mathlib.Omega.{arith}
-use mir.Val.{Fits}
-use mir.Syntax.{w64}
 use lib.ListN.{length, take, drop, length-drop}
 use lib.Seq.{take-all}
 use Rattle.meaning.specs.Rows.{Row}
-use Rattle.meaning.specs.Table.{greatestSize}
 use Rattle.meaning.specs.Questions.{byRows}
 use Rattle.words_layout.specs.Words.{pieces}
 use Rattle.words_layout.specs.Layout.{tableOf, rowOf, rowsAt, rowWidth, sizeIn, countIn}
 use Rattle.table_rules.specs.Checked.{Checked}
 use Rattle.question_scan.specs.Showing.{countShown, valueShown}
 use Rattle.question_scan.proofs.Tabled.{table-count, table-in}
-
--- where the rows start is a number that fits
-module _ (s : List ℕ) (K : Checked s) (n : ℕ) (e : n ≡ sizeIn s) where
-  square-small : n * n ≤ greatestSize * greatestSize
-  square-small = rw e (K .square)
-
-  pub square-fits : Fits w64 (n * n)
-  square-fits = omega (arith, square-small)
-
-  pub start-fits : Fits w64 (rowsAt n)
-  start-fits = omega (arith, square-small, K .few, e)
 
 -- the size, read as a place
 module _ (s : List ℕ) (K : Checked s) (n : ℕ) (e : n ≡ sizeIn s) (start : ℕ) (es : start ≡ rowsAt n) where

@@ -4,18 +4,16 @@ use mathlib.Core.Path.{_≡_, refl, sym, _∙_}
 use mathlib.Core.Bool.{Bool, true, false}
 use mathlib.Core.List.{List}
 use native.Mathlib.Omega.{arith}
-use borrow.Author.Tests.{eqb-true, eq-eqb, ne-eqb}
+use borrow.Author.Tests.{eq-eqb, ne-eqb}
 use lib.Dec.{eqb}
 use lib.ListN.{length, getD, take, drop, length-drop}
 use lib.Seq.{take-all}
-use mir.Val.{Fits}
-use mir.Syntax.{w32}
 use Rattle.meaning.specs.Order.{beforeByVector}
 use Rattle.meaning.specs.Operations.{Operation, before, isCounter}
 use Rattle.meaning.specs.Meaning.{on}
 use Rattle.meaning.specs.Rows.{Row}
 use Rattle.meaning.specs.Arrival.{concerns, rowBefore, takenBy, sameValue}
-use Rattle.meaning.proofs.Tests.{cases, iff}
+use Rattle.meaning.proofs.Tests.{cases}
 use Rattle.words_layout.specs.Words.{ofTwoWords, wordLimit}
 use Rattle.words_layout.specs.Layout.{rowOf}
 use Rattle.table_drop.specs.declared.Arrival.{Arrival}

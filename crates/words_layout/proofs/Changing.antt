@@ -12,7 +12,7 @@ use lib.ListN.{length, getD, take, drop, set, replicate, length-append, length-s
 use lib.Seq.{take-at, drop-at, drop-drop, take-add, length-take-le}
 use Rattle.meaning.specs.Table.{Table, greatestSize, greatestCapacity, mostObjects}
 use Rattle.meaning.proofs.Tests.{cases}
-use Rattle.words_layout.specs.Words.{complement, ofComplement, pieces, flat, padded, wordLimit}
+use Rattle.words_layout.specs.Words.{complement, ofComplement, pieces, flat, padded, wordLimit, twoWordLimit}
 use Rattle.words_layout.specs.Layout.{Laid, headWords, totalWords, totalOfWords, totalsWords, rowWords, rowOf, frontWords, rowsWords, wordsOf, tableOf, rewritten, beyond, spaceFor, rowsAt, rowsIn, sizeIn, objectsIn, countIn, withClock, withLast, withTotals, clockAt, totalsAt, totalsWidth}
 use Rattle.words_layout.proofs.Pieces.{Wide, Each, length-pieces, length-flat, pieces-at}
 use Rattle.words_layout.proofs.RowWords.{Shaped}
@@ -26,7 +26,7 @@ read-in-range code h = cases (ltb code 9223372036854775808)
     (λ p. rw p (ltb-true code 9223372036854775808 p))
     (λ p. rw p (let k = ltb-false code 9223372036854775808 p in omega arith))
 
-code-fits : (z : ℤ) → complement z < 18446744073709551616
+pub code-fits : (z : ℤ) → complement z < twoWordLimit
 unfolding complement
 code-fits (pos n) = omega arith
 code-fits (negsuc n) = omega arith

@@ -39,14 +39,14 @@ total-read (negsuc n) h =
     let b : 18446744073709551615 - (18446744073709551615 - n) ≡ n = omega arith in
     rw (e, le-ltb (18446744073709551615 - n) 9223372036854775808 (omega arith), b) refl
 
-two-read : (z : ℤ) → InRange z → totalOfWords (totalWords z) ≡ z
+pub two-read : (z : ℤ) → InRange z → totalOfWords (totalWords z) ≡ z
 two-read z h = rw (div-add-mod' (complement z) wordLimit) (total-read z h)
 
 totals-back : (l : List ℤ) → Each InRange l → Each (λ (z : ℤ). totalOfWords (totalWords z) ≡ z) l
 totals-back [] h = tt
 totals-back (z ∷ l) h = (two-read z (h .0), totals-back l (h .1))
 
-rows-back : (n : ℕ) (l : List Row) → Each (Shaped n) l → Each (λ (r : Row). rowOf (rowWords n r) ≡ r) l
+pub rows-back : (n : ℕ) (l : List Row) → Each (Shaped n) l → Each (λ (r : Row). rowOf (rowWords n r) ≡ r) l
 rows-back n [] h = tt
 rows-back n (r ∷ l) h = (row-read n r (h .0), rows-back n l (h .1))
 

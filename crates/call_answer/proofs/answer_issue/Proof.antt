@@ -3,9 +3,6 @@ use borrow.Author.Needs.{needs}
 use Rattle.call_answer.proofs.answer_issue.Statement.{statement}
 use Rattle.call_answer.proofs.answer_issue.Tie as tie
 
-add-t20 : tie.Need-add-t20
-add-t20 c = search frame-fits
-
 returns : tie.Need-returns
 returns c = search issue-refused
 
@@ -25,7 +22,7 @@ answer-issue-spec =
     (λ c. search needs)
     (λ c. search needs)
     (λ c κs. search needs)
-    add-t20
+    (λ c. search frame-fits)
     (λ c. search needs)
     (λ c. search needs)
     returns

@@ -6,9 +6,6 @@ use Rattle.call_checked.proofs.issue_read.Tie as tie
 returns : tie.Need-returns
 returns c = search issue-refused
 
-next-vector-requires : tie.Need-next-vector-requires
-next-vector-requires c κs = (search needs, search issue-rises)
-
 returns-2 : tie.Need-returns-2
 returns-2 c = search issue-framed
 
@@ -25,7 +22,7 @@ issue-read-spec =
     (λ c. search needs)
     (λ c κs. search needs)
     (λ c. search needs)
-    next-vector-requires
+    (λ c κs. (search needs, search issue-rises))
     (λ c. search needs)
     (λ c. search needs)
     (λ c. search needs)

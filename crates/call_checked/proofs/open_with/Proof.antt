@@ -6,12 +6,9 @@ use Rattle.call_checked.proofs.open_with.Tie as tie
 returns : tie.Need-returns
 returns c = search open-refused
 
-lay-table-requires : tie.Need-lay-table-requires
-lay-table-requires c κs = (search open-ranges, search open-room)
-
 returns-2 : tie.Need-returns-2
 returns-2 c = search open-fresh
 
 pub open-with-spec : {M : Type 1} → statement M
 open-with-spec =
-    tie.close (tie.spec (λ c κs. search needs) returns lay-table-requires (λ c. search needs) returns-2)
+    tie.close (tie.spec (λ c κs. search needs) returns (λ c κs. (search open-ranges, search open-room)) (λ c. search needs) returns-2)

@@ -6,12 +6,6 @@ use Rattle.call_checked.proofs.receive_read.Tie as tie
 returns : tie.Need-returns
 returns c = search receive-other-size
 
-part-receive-frame-end : tie.Need-part-receive-frame-end
-part-receive-frame-end c = search vector-room
-
-receive-frame-requires : tie.Need-receive-frame-requires
-receive-frame-requires c κs = (search needs, search vector-long)
-
 returns-2 : tie.Need-returns-2
 returns-2 c = search receive-refused
 
@@ -27,8 +21,8 @@ receive-read-spec =
     (λ c κs. search needs)
     (λ c. search needs)
     (λ c. search needs)
-    part-receive-frame-end
-    receive-frame-requires
+    (λ c. search vector-room)
+    (λ c κs. (search needs, search vector-long))
     (λ c. search needs)
     returns-2
     (λ c. search needs)

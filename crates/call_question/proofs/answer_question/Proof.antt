@@ -3,12 +3,6 @@ use borrow.Author.Needs.{needs}
 use Rattle.call_question.proofs.answer_question.Statement.{statement}
 use Rattle.call_question.proofs.answer_question.Tie as tie
 
-write-list-requires : tie.Need-write-list-requires
-write-list-requires c κs = (search needs, search too-long-counted)
-
-write-list-requires-2 : tie.Need-write-list-requires-2
-write-list-requires-2 c κs = (search needs, search list-counted)
-
 returns : tie.Need-returns
 returns c = search refused-told
 
@@ -41,14 +35,14 @@ answer-question-spec =
     (λ c. search needs)
     (λ c κs. search needs)
     (λ c. search needs)
-    write-list-requires
+    (λ c κs. (search needs, search too-long-counted))
     (λ c. search needs)
     (λ c κs. search needs)
     (λ c. search needs)
     (λ c κs. search needs)
     (λ c κs. search needs)
     (λ c. search needs)
-    write-list-requires-2
+    (λ c κs. (search needs, search list-counted))
     (λ c. search needs)
     (λ c κs. search needs)
     (λ c. search needs)

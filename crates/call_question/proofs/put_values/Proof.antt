@@ -12,12 +12,6 @@ abbrev μ-loop : tie.MeasureT-loop
 loop-holds : tie.Need-loop-holds Inv-loop μ-loop
 loop-holds c = search valuing-start
 
-next-value-requires : tie.Need-next-value-requires Inv-loop μ-loop
-next-value-requires c κs = (search needs, search value-left)
-
-put-number-requires : tie.Need-put-number-requires Inv-loop μ-loop
-put-number-requires c κs = search value-room
-
 loop-again : tie.Need-loop-again Inv-loop μ-loop
 loop-again c = search valuing-next
 
@@ -31,8 +25,8 @@ put-values-spec =
     Inv-loop
     μ-loop
     loop-holds
-    next-value-requires
-    put-number-requires
+    (λ c κs. (search needs, search value-left))
+    (λ c κs. search value-room)
     (λ c. search needs)
     (λ c. search needs)
     loop-again

@@ -6,14 +6,8 @@ use Rattle.call_question.proofs.write_list.Tie as tie
 returns : tie.Need-returns
 returns c = search list-short
 
-put-fields-requires : tie.Need-put-fields-requires
-put-fields-requires c κs = (search needs, search list-fields)
-
 put-values-requires : tie.Need-put-values-requires
 put-values-requires c κs = (search needs, search needs, list-room _ (c .before .before .before .before .before .before .before .before .before .before .before .pre .0) _ _ (c .before .before .before .before .before .before .before .before .before .before .before .pre .1) _ (c .before .before .before .before .before .before .before .before .wide .ensures .0) _ (search needs) _ _ (c .before .before .before .put-fields .ensures))
-
-put-lf-requires : tie.Need-put-lf-requires
-put-lf-requires c κs = search list-end
 
 returns-2 : tie.Need-returns-2
 returns-2 c = search list-done
@@ -30,8 +24,8 @@ write-list-spec =
     (λ c. search needs)
     (λ c. search needs)
     (λ c. search needs)
-    put-fields-requires
+    (λ c κs. (search needs, search list-fields))
     put-values-requires
-    put-lf-requires
+    (λ c κs. search list-end)
     (λ c. search needs)
     returns-2)

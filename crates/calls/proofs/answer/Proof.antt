@@ -6,9 +6,6 @@ use borrow.Author.Needs.{needs}
 use Rattle.calls.proofs.answer.Statement.{statement}
 use Rattle.calls.proofs.answer.Tie as tie
 
-answer-printing-requires : tie.Need-answer-printing-requires
-answer-printing-requires c κs = (search is-printing, search needs)
-
 returns : tie.Need-returns
 returns c = search answer-formed
 
@@ -24,7 +21,7 @@ answer-spec =
     (tie.spec
     (λ c κs. search needs)
     (λ c. search needs)
-    answer-printing-requires
+    (λ c κs. (search is-printing, search needs))
     (λ c. search needs)
     returns
     (λ c κs. search needs)

@@ -7,9 +7,6 @@ use borrow.Author.Needs.{needs}
 use Rattle.calls.proofs.answer_first.Statement.{statement}
 use Rattle.calls.proofs.answer_first.Tie as tie
 
-answer-line-requires : tie.Need-answer-line-requires
-answer-line-requires c κs = (search found, search needs)
-
 returns : tie.Need-returns
 returns c = search first-on
 
@@ -24,7 +21,7 @@ answer-first-spec =
     tie.close
     (tie.spec
     (λ c κs. search needs)
-    answer-line-requires
+    (λ c κs. (search found, search needs))
     (λ c. search needs)
     (λ c. search needs)
     returns

@@ -3,9 +3,6 @@ use borrow.Author.Needs.{needs}
 use Rattle.calls.proofs.answer_printing.Statement.{statement}
 use Rattle.calls.proofs.answer_printing.Tie as tie
 
-refuse-at-requires : tie.Need-refuse-at-requires
-refuse-at-requires c κs = search form-room
-
 returns : tie.Need-returns
 returns c = search form-line
 
@@ -23,7 +20,7 @@ answer-printing-spec =
     (λ c. search needs)
     (λ c. search needs)
     (λ c. search needs)
-    refuse-at-requires
+    (λ c κs. search form-room)
     (λ c. search needs)
     returns
     (λ c. search needs)

@@ -4,9 +4,6 @@ use borrow.Author.Needs.{needs}
 use Rattle.calls.proofs.ask.Statement.{statement}
 use Rattle.calls.proofs.ask.Tie as tie
 
-ask-line-requires : tie.Need-ask-line-requires
-ask-line-requires c κs = search found
-
 returns : tie.Need-returns
 returns c = search ask-table
 
@@ -14,4 +11,4 @@ returns-2 : tie.Need-returns-2
 returns-2 c = search ask-no-table
 
 pub ask-spec : {M : Type 1} → statement M
-ask-spec = tie.close (tie.spec (λ c κs. search needs) ask-line-requires (λ c. search needs) returns returns-2)
+ask-spec = tie.close (tie.spec (λ c κs. search needs) (λ c κs. search found) (λ c. search needs) returns returns-2)

@@ -4,9 +4,6 @@ use borrow.Author.Needs.{needs}
 use Rattle.calls.proofs.issue.Statement.{statement}
 use Rattle.calls.proofs.issue.Tie as tie
 
-issue-line-requires : tie.Need-issue-line-requires
-issue-line-requires c κs = search found
-
 returns : tie.Need-returns
 returns c = search issue-table
 
@@ -18,7 +15,7 @@ issue-spec =
     tie.close
     (tie.spec
     (λ c κs. search needs)
-    issue-line-requires
+    (λ c κs. search found)
     (λ c. search needs)
     (λ c. search needs)
     returns

@@ -4,9 +4,6 @@ use borrow.Author.Needs.{needs}
 use Rattle.calls.proofs.receive.Statement.{statement}
 use Rattle.calls.proofs.receive.Tie as tie
 
-receive-line-requires : tie.Need-receive-line-requires
-receive-line-requires c κs = search found
-
 returns : tie.Need-returns
 returns c = search receive-table
 
@@ -16,4 +13,4 @@ returns-2 c = search receive-no-table
 pub receive-spec : {M : Type 1} → statement M
 receive-spec =
     tie.close
-    (tie.spec (λ c κs. search needs) receive-line-requires (λ c. search needs) returns (λ c. search needs) returns-2)
+    (tie.spec (λ c κs. search needs) (λ c κs. search found) (λ c. search needs) returns (λ c. search needs) returns-2)

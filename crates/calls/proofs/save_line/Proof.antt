@@ -4,9 +4,6 @@ use borrow.Author.Needs.{needs}
 use Rattle.calls.proofs.save_line.Statement.{statement}
 use Rattle.calls.proofs.save_line.Tie as tie
 
-save-checked-requires : tie.Need-save-checked-requires
-save-checked-requires c κs = search found
-
 returns : tie.Need-returns
 returns c = search save-table
 
@@ -15,4 +12,4 @@ returns-2 c = search save-no-table
 
 pub save-line-spec : {M : Type 1} → statement M
 save-line-spec =
-    tie.close (tie.spec (λ c κs. search needs) save-checked-requires (λ c. search needs) returns returns-2)
+    tie.close (tie.spec (λ c κs. search needs) (λ c κs. search found) (λ c. search needs) returns returns-2)

@@ -4,9 +4,6 @@ use borrow.Author.Needs.{needs}
 use Rattle.calls.proofs.settle.Statement.{statement}
 use Rattle.calls.proofs.settle.Tie as tie
 
-settle-line-requires : tie.Need-settle-line-requires
-settle-line-requires c κs = search found
-
 returns : tie.Need-returns
 returns c = (search settle-table, search table-falls)
 
@@ -16,4 +13,4 @@ returns-2 c = (search settle-no-table, search no-table-falls)
 pub settle-spec : {M : Type 1} → statement M
 settle-spec =
     tie.close
-    (tie.spec (λ c κs. search needs) settle-line-requires (λ c. search needs) returns (λ c. search needs) returns-2)
+    (tie.spec (λ c κs. search needs) (λ c κs. search found) (λ c. search needs) returns (λ c. search needs) returns-2)

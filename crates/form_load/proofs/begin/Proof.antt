@@ -3,9 +3,6 @@ use borrow.Author.Needs.{needs}
 use Rattle.form_load.proofs.begin.Statement.{statement}
 use Rattle.form_load.proofs.begin.Tie as tie
 
-slice-write-space : tie.Need-slice-write-space
-slice-write-space c = search begin-room
-
 returns : tie.Need-returns
 returns c = search begin-refused
 
@@ -19,7 +16,7 @@ begin-spec =
     (λ c κs. search needs)
     (λ c. search needs)
     (λ c. search needs)
-    slice-write-space
+    (λ c. search begin-room)
     (λ c. search needs)
     returns
     (λ c. search needs)

@@ -3,9 +3,6 @@ use borrow.Author.Needs.{needs}
 use Rattle.form_load.proofs.load_line.Statement.{statement}
 use Rattle.form_load.proofs.load_line.Tie as tie
 
-take-line-requires : tie.Need-take-line-requires
-take-line-requires c κs = search is-under
-
 returns : tie.Need-returns
 returns c = search loads-next
 
@@ -17,7 +14,7 @@ load-line-spec =
     tie.close
     (tie.spec
     (λ c κs. search needs)
-    take-line-requires
+    (λ c κs. search is-under)
     (λ c. search needs)
     returns
     (λ c κs. search needs)

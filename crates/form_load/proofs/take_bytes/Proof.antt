@@ -4,20 +4,11 @@ use borrow.Author.Needs.{needs}
 use Rattle.form_load.proofs.take_bytes.Statement.{statement}
 use Rattle.form_load.proofs.take_bytes.Tie as tie
 
-next-in-requires : tie.Need-next-in-requires
-next-in-requires c κs = search load-head
-
-take-clock-requires : tie.Need-take-clock-requires
-take-clock-requires c κs = (search load-head, search load-early)
-
 take-last-requires : tie.Need-take-last-requires
 take-last-requires c κs = (search load-head, search load-early, search load-station)
 
 take-total-requires : tie.Need-take-total-requires
 take-total-requires c κs = (search load-head, search load-early, search load-object)
-
-take-row-or-close-requires : tie.Need-take-row-or-close-requires
-take-row-or-close-requires c κs = search load-head
 
 returns : tie.Need-returns
 returns c = search takes-clock
@@ -38,15 +29,15 @@ pub take-bytes-spec : {M : Type 1} → statement M
 take-bytes-spec =
     tie.close
     (tie.spec
-    next-in-requires
+    (λ c κs. search load-head)
     (λ c. search needs)
-    take-clock-requires
+    (λ c κs. (search load-head, search load-early))
     (λ c. search needs)
     take-last-requires
     (λ c. search needs)
     take-total-requires
     (λ c. search needs)
-    take-row-or-close-requires
+    (λ c κs. search load-head)
     (λ c. search needs)
     (λ c κs. search needs)
     (λ c. search needs)

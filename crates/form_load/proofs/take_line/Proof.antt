@@ -4,9 +4,6 @@ use borrow.Author.Needs.{needs}
 use Rattle.form_load.proofs.take_line.Statement.{statement}
 use Rattle.form_load.proofs.take_line.Tie as tie
 
-part-take-bytes-end : tie.Need-part-take-bytes-end
-part-take-bytes-end c = search heard-room
-
 returns : tie.Need-returns
 returns c = search takes-heard
 
@@ -17,7 +14,7 @@ take-line-spec =
     (λ c κs. search needs)
     (λ c. search needs)
     (λ c. search needs)
-    part-take-bytes-end
+    (λ c. search heard-room)
     (λ c κs. search needs)
     (λ c. search needs)
     returns)

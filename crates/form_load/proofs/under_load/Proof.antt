@@ -6,9 +6,6 @@ use Rattle.form_load.proofs.under_load.Tie as tie
 returns : tie.Need-returns
 returns c = search under-short
 
-load-waits-requires : tie.Need-load-waits-requires
-load-waits-requires c κs = search under-headed
-
 returns-2 : tie.Need-returns-2
 returns-2 c = search under-waits
 
@@ -17,4 +14,4 @@ returns-3 c = search under-head
 
 pub under-load-spec : {M : Type 1} → statement M
 under-load-spec =
-    tie.close (tie.spec returns (λ c κs. search needs) load-waits-requires returns-2 returns-3)
+    tie.close (tie.spec returns (λ c κs. search needs) (λ c κs. search under-headed) returns-2 returns-3)

@@ -3,9 +3,6 @@ use borrow.Author.Needs.{needs}
 use Rattle.form_row.proofs.join.Statement.{statement}
 use Rattle.form_row.proofs.join.Tie as tie
 
-put-requires : tie.Need-put-requires
-put-requires c κs = search join-room
-
 returns : tie.Need-returns
 returns c = search row-joined
 
@@ -17,7 +14,7 @@ join-spec =
     (λ c. search needs)
     (λ c κs. search needs)
     (λ c κs. search needs)
-    put-requires
+    (λ c κs. search join-room)
     (λ c. search needs)
     (λ c. search needs)
     (λ c. search needs)

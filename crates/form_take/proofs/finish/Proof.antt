@@ -6,9 +6,6 @@ use Rattle.form_take.proofs.finish.Tie as tie
 returns : tie.Need-returns
 returns c = search finish-table
 
-same-length-2 : tie.Need-same-length-2
-same-length-2 c = search spoilt-long
-
 returns-2 : tie.Need-returns-2
 returns-2 c = search finish-none
 
@@ -21,5 +18,5 @@ finish-spec =
     (λ c. search needs)
     returns
     (λ c κs. search needs)
-    same-length-2
+    (λ c. search spoilt-long)
     returns-2)

@@ -3,9 +3,6 @@ use borrow.Author.Needs.{needs}
 use Rattle.form_take.proofs.take_clock.Statement.{statement}
 use Rattle.form_take.proofs.take_clock.Tie as tie
 
-part-take-words-end : tie.Need-part-take-words-end
-part-take-words-end c = search clock-room
-
 returns : tie.Need-returns
 returns c = search clock-right
 
@@ -21,7 +18,7 @@ take-clock-spec =
     (λ c κs. search needs)
     (λ c. search needs)
     (λ c. search needs)
-    part-take-words-end
+    (λ c. search clock-room)
     (λ c κs. search needs)
     (λ c. search needs)
     returns

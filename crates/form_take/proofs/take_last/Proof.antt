@@ -10,18 +10,6 @@ returns c = search (last-misshapen, not-true)
 returns-2 : tie.Need-returns-2
 returns-2 c = search last-misplaced
 
-part-last-ok-end : tie.Need-part-last-ok-end
-part-last-ok-end c = search last-room
-
-mul-at : tie.Need-mul-at
-mul-at c = search last-offset
-
-add-at : tie.Need-add-at
-add-at c = search last-start
-
-part-take-words-end : tie.Need-part-take-words-end
-part-take-words-end c = search last-room
-
 take-words-requires : tie.Need-take-words-requires
 take-words-requires c κs = (search needs, search needs, search last-fits)
 
@@ -48,17 +36,17 @@ take-last-spec =
     (λ c. search needs)
     (λ c. search needs)
     (λ c. search needs)
-    part-last-ok-end
+    (λ c. search last-room)
     (λ c. search needs)
     (λ c. search needs)
     (λ c. search needs)
     (λ c κs. search needs)
     (λ c κs. search needs)
-    mul-at
-    add-at
+    (λ c. search last-offset)
+    (λ c. search last-start)
     (λ c. search needs)
     (λ c. search needs)
-    part-take-words-end
+    (λ c. search last-room)
     take-words-requires
     (λ c. search needs)
     returns-3

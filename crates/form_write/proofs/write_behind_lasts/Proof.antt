@@ -3,12 +3,6 @@ use borrow.Author.Needs.{needs}
 use Rattle.form_write.proofs.write_behind_lasts.Statement.{statement}
 use Rattle.form_write.proofs.write_behind_lasts.Tie as tie
 
-cast-write-total : tie.Need-cast-write-total
-cast-write-total c = search object-fits
-
-write-total-requires : tie.Need-write-total-requires
-write-total-requires c κs = (search needs, search object-below)
-
 returns : tie.Need-returns
 returns c = search total-told
 
@@ -27,8 +21,8 @@ write-behind-lasts-spec =
     (λ c. search needs)
     (λ c κs. search needs)
     (λ c. search needs)
-    cast-write-total
-    write-total-requires
+    (λ c. search object-fits)
+    (λ c κs. (search needs, search object-below))
     (λ c κs. search needs)
     (λ c. search needs)
     (λ c κs. search needs)

@@ -3,9 +3,6 @@ use borrow.Author.Needs.{needs}
 use Rattle.line_decode.proofs.is_opening.Statement.{statement}
 use Rattle.line_decode.proofs.is_opening.Tie as tie
 
-part-read-opening-end : tie.Need-part-read-opening-end
-part-read-opening-end c = search heard-room
-
 returns : tie.Need-returns
 returns c = search opening-heard
 
@@ -16,6 +13,6 @@ is-opening-spec =
     (λ c κs. search needs)
     (λ c. search needs)
     (λ c. search needs)
-    part-read-opening-end
+    (λ c. search heard-room)
     (λ c κs. search needs)
     returns)

@@ -4,9 +4,6 @@ use borrow.Author.Needs.{needs}
 use Rattle.line_decode.proofs.issue.Statement.{statement}
 use Rattle.line_decode.proofs.issue.Tie as tie
 
-part-read-issue-end : tie.Need-part-read-issue-end
-part-read-issue-end c = search heard-room
-
 returns : tie.Need-returns
 returns c = search (reads-heard issueRead)
 
@@ -17,6 +14,6 @@ issue-spec =
     (λ c κs. search needs)
     (λ c. search needs)
     (λ c. search needs)
-    part-read-issue-end
+    (λ c. search heard-room)
     (λ c κs. search needs)
     returns)

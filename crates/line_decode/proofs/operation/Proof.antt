@@ -4,9 +4,6 @@ use borrow.Author.Needs.{needs}
 use Rattle.line_decode.proofs.operation.Statement.{statement}
 use Rattle.line_decode.proofs.operation.Tie as tie
 
-part-read-operation-end : tie.Need-part-read-operation-end
-part-read-operation-end c = search heard-room
-
 returns : tie.Need-returns
 returns c = search (reads-heard operationRead)
 
@@ -17,6 +14,6 @@ operation-spec =
     (λ c κs. search needs)
     (λ c. search needs)
     (λ c. search needs)
-    part-read-operation-end
+    (λ c. search heard-room)
     (λ c κs. search needs)
     returns)

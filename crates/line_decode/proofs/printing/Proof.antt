@@ -4,9 +4,6 @@ use borrow.Author.Needs.{needs}
 use Rattle.line_decode.proofs.printing.Statement.{statement}
 use Rattle.line_decode.proofs.printing.Tie as tie
 
-part-read-printing-end : tie.Need-part-read-printing-end
-part-read-printing-end c = search heard-room
-
 returns : tie.Need-returns
 returns c = search (reads-heard printingRead)
 
@@ -17,6 +14,6 @@ printing-spec =
     (λ c κs. search needs)
     (λ c. search needs)
     (λ c. search needs)
-    part-read-printing-end
+    (λ c. search heard-room)
     (λ c κs. search needs)
     returns)

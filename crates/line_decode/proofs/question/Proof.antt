@@ -4,9 +4,6 @@ use borrow.Author.Needs.{needs}
 use Rattle.line_decode.proofs.question.Statement.{statement}
 use Rattle.line_decode.proofs.question.Tie as tie
 
-part-read-question-end : tie.Need-part-read-question-end
-part-read-question-end c = search heard-room
-
 returns : tie.Need-returns
 returns c = search (reads-heard questionRead)
 
@@ -17,6 +14,6 @@ question-spec =
     (λ c κs. search needs)
     (λ c. search needs)
     (λ c. search needs)
-    part-read-question-end
+    (λ c. search heard-room)
     (λ c κs. search needs)
     returns)

@@ -4,9 +4,6 @@ use borrow.Author.Needs.{needs}
 use Rattle.line_decode.proofs.settling.Statement.{statement}
 use Rattle.line_decode.proofs.settling.Tie as tie
 
-part-read-settling-end : tie.Need-part-read-settling-end
-part-read-settling-end c = search heard-room
-
 returns : tie.Need-returns
 returns c = search (reads-heard settlingRead)
 
@@ -17,6 +14,6 @@ settling-spec =
     (λ c κs. search needs)
     (λ c. search needs)
     (λ c. search needs)
-    part-read-settling-end
+    (λ c. search heard-room)
     (λ c κs. search needs)
     returns)

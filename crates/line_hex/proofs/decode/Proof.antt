@@ -15,20 +15,11 @@ abbrev μ-loop : tie.MeasureT-loop
 loop-holds : tie.Need-loop-holds Inv-loop μ-loop
 loop-holds c = search decoding-start
 
-pair-at-requires : tie.Need-pair-at-requires Inv-loop μ-loop
-pair-at-requires c κs = tt
-
 loop-again : tie.Need-loop-again Inv-loop μ-loop
 loop-again c = search decoding-turn
 
-ended-at-requires : tie.Need-ended-at-requires Inv-loop μ-loop
-ended-at-requires c κs = tt
-
 returns : tie.Need-returns Inv-loop μ-loop
 returns c = search decoding-stopped
-
-ended-at-requires-2 : tie.Need-ended-at-requires-2 Inv-loop μ-loop
-ended-at-requires-2 c κs = tt
 
 returns-2 : tie.Need-returns-2 Inv-loop μ-loop
 returns-2 c = search decoding-full
@@ -40,7 +31,7 @@ decode-spec =
     Inv-loop
     μ-loop
     loop-holds
-    pair-at-requires
+    (λ c κs. tt)
     (λ c. search needs)
     (λ c. search needs)
     (λ c. search needs)
@@ -48,9 +39,9 @@ decode-spec =
     (λ c. search needs)
     loop-again
     (λ c. search needs)
-    ended-at-requires
+    (λ c κs. tt)
     (λ c. search needs)
     returns
-    ended-at-requires-2
+    (λ c κs. tt)
     (λ c. search needs)
     returns-2)

@@ -15,15 +15,6 @@ abbrev μ-loop : tie.MeasureT-loop
 loop-holds : tie.Need-loop-holds Inv-loop μ-loop
 loop-holds c = search (putting-start, arith)
 
-digit-of-requires : tie.Need-digit-of-requires Inv-loop μ-loop
-digit-of-requires c κs = tt
-
-digit-of-requires-2 : tie.Need-digit-of-requires-2 Inv-loop μ-loop
-digit-of-requires-2 c κs = tt
-
-slice-write-out-2 : tie.Need-slice-write-out-2 Inv-loop μ-loop
-slice-write-out-2 c = simp length-set (omega arith)
-
 loop-again : tie.Need-loop-again Inv-loop μ-loop
 loop-again c = search putting-turn
 
@@ -41,11 +32,11 @@ put-number-spec =
     loop-holds
     (λ c. search needs)
     (λ c. search needs)
-    digit-of-requires
+    (λ c κs. tt)
     (λ c. search needs)
-    digit-of-requires-2
+    (λ c κs. tt)
     (λ c. search needs)
-    slice-write-out-2
+    (λ c. simp length-set (omega arith))
     (λ c. search needs)
     loop-again
     (λ c. search needs)

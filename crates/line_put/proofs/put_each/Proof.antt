@@ -15,9 +15,6 @@ abbrev μ-loop : tie.MeasureT-loop
 loop-holds : tie.Need-loop-holds Inv-loop μ-loop
 loop-holds c = search numbering-start
 
-put-number-requires : tie.Need-put-number-requires Inv-loop μ-loop
-put-number-requires c κs = search numbering-room
-
 loop-again : tie.Need-loop-again Inv-loop μ-loop
 loop-again c = search numbering-turn
 
@@ -33,7 +30,7 @@ put-each-spec =
     loop-holds
     (λ c. search needs)
     (λ c. search needs)
-    put-number-requires
+    (λ c κs. search numbering-room)
     (λ c. search needs)
     (λ c. search needs)
     loop-again

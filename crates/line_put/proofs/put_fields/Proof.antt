@@ -19,9 +19,6 @@ loop-holds c = search fielding-start
 cast-put-number : tie.Need-cast-put-number Inv-loop μ-loop
 cast-put-number c = omega (arith, c .shared-slice-known4 .given (c .before .before .before .before .loop .i))
 
-put-number-requires : tie.Need-put-number-requires Inv-loop μ-loop
-put-number-requires c κs = search fielding-room
-
 loop-again : tie.Need-loop-again Inv-loop μ-loop
 loop-again c = search fielding-turn
 
@@ -39,7 +36,7 @@ put-fields-spec =
     (λ c. search needs)
     (λ c. search needs)
     cast-put-number
-    put-number-requires
+    (λ c κs. search fielding-room)
     (λ c. search needs)
     (λ c. search needs)
     loop-again

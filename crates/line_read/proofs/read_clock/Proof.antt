@@ -7,12 +7,9 @@ use borrow.Author.Needs.{needs}
 use Rattle.line_read.proofs.read_clock.Statement.{statement}
 use Rattle.line_read.proofs.read_clock.Tie as tie
 
-read-fields-requires : tie.Need-read-fields-requires
-read-fields-requires c κs = known clock refl .head
-
 returns : tie.Need-returns
 unfolding clockRead lineRead
 returns c = ap clockOf (c .before .read-fields .ensures)
 
 pub read-clock-spec : {M : Type 1} → statement M
-read-clock-spec = tie.close (tie.spec (λ c. search needs) read-fields-requires returns)
+read-clock-spec = tie.close (tie.spec (λ c. search needs) (λ c κs. known clock refl .head) returns)

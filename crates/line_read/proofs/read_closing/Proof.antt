@@ -7,13 +7,10 @@ use borrow.Author.Needs.{needs}
 use Rattle.line_read.proofs.read_closing.Statement.{statement}
 use Rattle.line_read.proofs.read_closing.Tie as tie
 
-read-fields-requires : tie.Need-read-fields-requires
-read-fields-requires c κs = known closing refl .head
-
 returns : tie.Need-returns
 unfolding closingRead lineRead
 returns c = ap closingOf (c .before .read-fields .ensures)
 
 pub read-closing-spec : {M : Type 1} → statement M
 read-closing-spec =
-    tie.close (tie.spec (λ c. search needs) read-fields-requires (λ c. search needs) returns)
+    tie.close (tie.spec (λ c. search needs) (λ c κs. known closing refl .head) (λ c. search needs) returns)

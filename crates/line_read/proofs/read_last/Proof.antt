@@ -7,13 +7,10 @@ use borrow.Author.Needs.{needs}
 use Rattle.line_read.proofs.read_last.Statement.{statement}
 use Rattle.line_read.proofs.read_last.Tie as tie
 
-read-fields-requires : tie.Need-read-fields-requires
-read-fields-requires c κs = known lastVector refl .head
-
 returns : tie.Need-returns
 unfolding lastRead lineRead
 returns c = ap lastOf (c .before .before .read-fields .ensures)
 
 pub read-last-spec : {M : Type 1} → statement M
 read-last-spec =
-    tie.close (tie.spec (λ c. search needs) read-fields-requires (λ c. search needs) returns)
+    tie.close (tie.spec (λ c. search needs) (λ c κs. known lastVector refl .head) (λ c. search needs) returns)

@@ -7,9 +7,6 @@ use borrow.Author.Needs.{needs}
 use Rattle.line_read.proofs.read_opening.Statement.{statement}
 use Rattle.line_read.proofs.read_opening.Tie as tie
 
-head-of-requires : tie.Need-head-of-requires
-head-of-requires c κs = known opening refl .head
-
 returns : tie.Need-returns
 returns c = search opening-there
 
@@ -24,7 +21,7 @@ read-opening-spec =
     (λ c. search needs)
     (λ c κs. search needs)
     (λ c. search needs)
-    head-of-requires
+    (λ c κs. known opening refl .head)
     (λ c. search needs)
     (λ c. search needs)
     (λ c. search needs)

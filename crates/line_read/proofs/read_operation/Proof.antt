@@ -8,9 +8,6 @@ use borrow.Author.Needs.{needs}
 use Rattle.line_read.proofs.read_operation.Statement.{statement}
 use Rattle.line_read.proofs.read_operation.Tie as tie
 
-read-fields-requires : tie.Need-read-fields-requires
-read-fields-requires c κs = known operation refl .head
-
 returns : tie.Need-returns
 unfolding operationRead lineRead
 returns c = ap operationOf (c .before .before .read-fields .ensures ∙ ap (λ (n : ℕ). lineRead operation n (c .before .before .before .before .before .before .args .s .now)) (c .before .before .before .count-at .ensures .0))
@@ -21,7 +18,7 @@ read-operation-spec =
     (tie.spec
     (λ c. search needs)
     (λ c κs. search needs)
-    read-fields-requires
+    (λ c κs. known operation refl .head)
     (λ c. search needs)
     (λ c. search needs)
     (λ c. search needs)

@@ -7,9 +7,6 @@ use borrow.Author.Needs.{needs}
 use Rattle.line_read.proofs.read_row.Statement.{statement}
 use Rattle.line_read.proofs.read_row.Tie as tie
 
-read-fields-requires : tie.Need-read-fields-requires
-read-fields-requires c κs = known row refl .head
-
 returns : tie.Need-returns
 unfolding rowRead lineRead
 returns c = ap rowOf (c .before .before .read-fields .ensures)
@@ -19,7 +16,7 @@ read-row-spec =
     tie.close
     (tie.spec
     (λ c. search needs)
-    read-fields-requires
+    (λ c κs. known row refl .head)
     (λ c. search needs)
     (λ c. search needs)
     (λ c. search needs)

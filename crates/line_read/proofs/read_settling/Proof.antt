@@ -7,13 +7,10 @@ use borrow.Author.Needs.{needs}
 use Rattle.line_read.proofs.read_settling.Statement.{statement}
 use Rattle.line_read.proofs.read_settling.Tie as tie
 
-read-fields-requires : tie.Need-read-fields-requires
-read-fields-requires c κs = known settling refl .head
-
 returns : tie.Need-returns
 unfolding settlingRead lineRead
 returns c = ap settlingOf (c .before .read-fields .ensures)
 
 pub read-settling-spec : {M : Type 1} → statement M
 read-settling-spec =
-    tie.close (tie.spec (λ c. search needs) read-fields-requires (λ c. search needs) returns)
+    tie.close (tie.spec (λ c. search needs) (λ c κs. known settling refl .head) (λ c. search needs) returns)

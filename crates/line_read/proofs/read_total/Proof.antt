@@ -7,9 +7,6 @@ use borrow.Author.Needs.{needs}
 use Rattle.line_read.proofs.read_total.Statement.{statement}
 use Rattle.line_read.proofs.read_total.Tie as tie
 
-read-fields-requires : tie.Need-read-fields-requires
-read-fields-requires c κs = known total refl .head
-
 returns : tie.Need-returns
 unfolding totalRead lineRead
 returns c = ap totalOf (c .before .read-fields .ensures)
@@ -19,7 +16,7 @@ read-total-spec =
     tie.close
     (tie.spec
     (λ c. search needs)
-    read-fields-requires
+    (λ c κs. known total refl .head)
     (λ c. search needs)
     (λ c. search needs)
     (λ c. search needs)

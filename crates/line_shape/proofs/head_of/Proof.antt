@@ -19,9 +19,6 @@ loop-holds c = search heading-start
 cast-width : tie.Need-cast-width Inv-loop μ-loop
 cast-width c = omega (arith, c .shared-slice-known3 .given (c .before .before .loop .i))
 
-number-at-requires : tie.Need-number-at-requires Inv-loop μ-loop
-number-at-requires c κs = search head-width
-
 add-at : tie.Need-add-at Inv-loop μ-loop
 add-at c = omega (arith, head-width _ (c .before .before .before .loop .i) (c .before .before .before .before .before .before .pre), c .before .before .before .before .before .before .pre .few)
 
@@ -40,7 +37,7 @@ head-of-spec =
     loop-holds
     (λ c. search needs)
     cast-width
-    number-at-requires
+    (λ c κs. search head-width)
     (λ c. search needs)
     (λ c. search needs)
     add-at

@@ -13,18 +13,6 @@ abbrev μ-loop : tie.MeasureT-loop
 loop-holds : tie.Need-loop-holds Inv-loop μ-loop
 loop-holds c = search counting-start
 
-byte-at-requires : tie.Need-byte-at-requires Inv-loop μ-loop
-byte-at-requires c κs = tt
-
-mul-number : tie.Need-mul-number Inv-loop μ-loop
-mul-number c = search counting-shift
-
-wide-requires : tie.Need-wide-requires Inv-loop μ-loop
-wide-requires c κs = tt
-
-add-number : tie.Need-add-number Inv-loop μ-loop
-add-number c = search counting-add
-
 loop-again : tie.Need-loop-again Inv-loop μ-loop
 loop-again c = search counting-turn
 
@@ -41,11 +29,11 @@ number-at-spec =
     Inv-loop
     μ-loop
     loop-holds
-    byte-at-requires
+    (λ c κs. tt)
     (λ c. search needs)
-    mul-number
-    wide-requires
-    add-number
+    (λ c. search counting-shift)
+    (λ c κs. tt)
+    (λ c. search counting-add)
     (λ c. search needs)
     (λ c. search needs)
     loop-again

@@ -11,9 +11,6 @@ returns c = search fields-many
 add-has-shape : tie.Need-add-has-shape
 add-has-shape c = omega (arith, head-small _ (c .before .before .before .before .pre), c .length-of .ensures)
 
-entries-at-requires : tie.Need-entries-at-requires
-entries-at-requires c κs = (search needs, search fields-enough)
-
 returns-2 : tie.Need-returns-2
 returns-2 c = search fields-there
 
@@ -31,7 +28,7 @@ read-fields-spec =
     add-has-shape
     (λ c κs. search needs)
     (λ c κs. search needs)
-    entries-at-requires
+    (λ c κs. (search needs, search fields-enough))
     (λ c κs. search needs)
     returns-2
     returns-3)

@@ -4,9 +4,6 @@ use borrow.Author.Needs.{needs}
 use Rattle.program_input.proofs.run.Statement.{statement}
 use Rattle.program_input.proofs.run.Tie as tie
 
-read-requires : tie.Need-read-requires
-read-requires c κs = (search needs, search (ready-start, needs))
-
 pub run-spec : {M : Type 1} → statement M
 run-spec =
     tie.close
@@ -15,7 +12,7 @@ run-spec =
     (λ c. search needs)
     (λ c. search needs)
     (λ c. search needs)
-    read-requires
+    (λ c κs. (search needs, search (ready-start, needs)))
     (λ c. search needs)
     (λ c. search needs)
     (λ c. search needs)

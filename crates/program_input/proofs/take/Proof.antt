@@ -8,12 +8,6 @@ use Rattle.program_input.proofs.take.Tie as tie
 returns : tie.Need-returns
 returns c = (search taken-joined, (search held-joined, search ready-joined))
 
-part-respond-end : tie.Need-part-respond-end
-part-respond-end c = search (kept-in, needs)
-
-respond-requires : tie.Need-respond-requires
-respond-requires c κs = (search needs, search kept-short)
-
 returns-2 : tie.Need-returns-2
 returns-2 c = (search taken-ended, (search held-ended, search ready-ended))
 
@@ -26,8 +20,8 @@ take-spec =
     returns
     (λ c. search needs)
     (λ c. search needs)
-    part-respond-end
-    respond-requires
+    (λ c. search (kept-in, needs))
+    (λ c κs. (search needs, search kept-short))
     (λ c. search needs)
     (λ c. search needs)
     (λ c. search needs)

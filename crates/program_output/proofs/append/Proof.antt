@@ -15,9 +15,6 @@ abbrev μ-loop : tie.MeasureT-loop
 loop-holds : tie.Need-loop-holds Inv-loop μ-loop
 loop-holds c = search appending-start
 
-keep-requires : tie.Need-keep-requires Inv-loop μ-loop
-keep-requires c κs = tt
-
 loop-again : tie.Need-loop-again Inv-loop μ-loop
 loop-again c = search appending-turn
 
@@ -32,7 +29,7 @@ append-spec =
     μ-loop
     loop-holds
     (λ c. search needs)
-    keep-requires
+    (λ c κs. tt)
     (λ c. search needs)
     (λ c. search needs)
     loop-again

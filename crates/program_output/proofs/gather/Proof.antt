@@ -16,12 +16,6 @@ abbrev μ-loop : tie.MeasureT-loop
 loop-holds : tie.Need-loop-holds Inv-loop μ-loop
 loop-holds c = search (replying-start, needs)
 
-part-push-end : tie.Need-part-push-end Inv-loop μ-loop
-part-push-end c = search (line-within, needs)
-
-push-requires : tie.Need-push-requires Inv-loop μ-loop
-push-requires c κs = (search needs, search line-short)
-
 returns : tie.Need-returns Inv-loop μ-loop
 returns c = (search replying-ended, search needs)
 
@@ -42,8 +36,8 @@ gather-spec =
     (λ c. search needs)
     (λ c. search needs)
     (λ c. search needs)
-    part-push-end
-    push-requires
+    (λ c. search (line-within, needs))
+    (λ c κs. (search needs, search line-short))
     (λ c. search needs)
     (λ c. search needs)
     (λ c. search needs)

@@ -1,7 +1,7 @@
-use Rattle.calls.proofs.Answering.{refused-later, refused-first}
+use Rattle.call_answer.proofs.OutputLines.{refused-later, refused-first}
 use borrow.Author.Needs.{needs}
-use Rattle.calls.proofs.refuse_at.Statement.{statement}
-use Rattle.calls.proofs.refuse_at.Tie as tie
+use Rattle.call_answer.proofs.refuse_at.Statement.{statement}
+use Rattle.call_answer.proofs.refuse_at.Tie as tie
 
 returns : tie.Need-returns
 returns c = search refused-later
