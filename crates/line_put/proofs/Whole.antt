@@ -37,7 +37,7 @@ line-laid space bytes h =
 
 module _ (space widths fields : List ℕ) (width : ℕ) (numbers : List ℕ) (W : Writable widths fields width numbers) where
   each-small : width * length numbers ≤ 262140
-  each-small = let few : length numbers ≤ 65536 = omega (arith, W .counted) in omega (arith, mul-le-mul (W .slim) few)
+  each-small = let few : length numbers ≤ 65536 - 1 = omega (arith, W .counted) in omega (arith, mul-le-mul (W .slim) few)
 
   size-of-line : length (lineBytes widths fields width numbers) ≡ lengthOf widths + width * length numbers
   unfolding lineBytes
