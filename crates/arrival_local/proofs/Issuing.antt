@@ -99,9 +99,6 @@ module _ (s : List ℕ) (C : Checked s) (n : ℕ) (en : n ≡ sizeIn s) where
   unfolding tableOf
   clock-long = fit s (C .laid) .clock-long
 
-  pub part-fits : 0 + length part ≤ greatestSize
-  part-fits = let l = ap length (clock-part s n en) ∙ clock-long in let f = C .few in omega arith
-
   module _ (next : List ℕ) (e : next ≡ paste (replicate greatestSize 0) 0 part (length part)) where
     laid-out : next ≡ clock ++ replicate (greatestSize - length clock) 0
     laid-out =

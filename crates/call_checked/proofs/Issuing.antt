@@ -16,7 +16,7 @@ use Rattle.words_layout.specs.Layout.{tableOf, rewritten, sizeIn, ownIn}
 use Rattle.table_change.specs.Changes.{entryBelowLimit}
 use Rattle.table_rules.specs.Checked.{Checked}
 use Rattle.refusal_order.specs.Fields.{localFrom}
-use Rattle.arrival_local.proofs.Issuing.{rises-accepted, raised-long, vector-is}
+use Rattle.arrival_local.proofs.Issuing.{rises-accepted, vector-is}
 use Rattle.line_hex.specs.Choice.{pick}
 use Rattle.line_hex.specs.Hex.{hexLine}
 use Rattle.line_put.specs.Writing.{lineWritten}
@@ -84,9 +84,6 @@ module _ (words out : List ℕ) (K : Checked words) (f : Issue) (number : ℕ) (
     frame-is : (space : List ℕ) → printed space operation (length (take (size - 0) next) ∷ ownIn words ∷ f .object ∷ f .code ∷ f .value ∷ []) (take (size - 0) next) ≡ lineWritten space (frameBytes (issuedBy table local))
     unfolding printed frameBytes issuedBy tableOf
     frame-is space = rw (vector-is words K size en next g) refl
-
-    pub vector-few : length (take (size - 0) next) ≡ size
-    vector-few = rw (vector-is words K size en next g) (raised-long words K size en next g)
 
     module _ (r : Written) (y : List ℕ) (p : (r, y) ≡ printed out operation (length (take (size - 0) next) ∷ ownIn words ∷ f .object ∷ f .code ∷ f .value ∷ []) (take (size - 0) next)) where
       given : issuedAs words out (meaning.issue table (localOf f)) ≡ framedAs words (afterArrival table (issuedBy table local) (table .last)) out (r, y)

@@ -23,8 +23,9 @@ use Rattle.line_decode.specs.Decoding.{bytesOf}
 use Rattle.line_decode.proofs.Decoding.{decoded-bytes}
 use Rattle.call_checked.specs.declared.Settled.the-variants as settled
 use Rattle.call_checked.specs.Called.{settledAs, settledOn}
+use Rattle.line_put.specs.Writing.{twoByteLimit}
 
-two-bytes : (bs : List ℕ) → AllBytes bs → numberOf (take 2 bs) < 65536
+two-bytes : (bs : List ℕ) → AllBytes bs → numberOf (take 2 bs) < twoByteLimit
 unfolding AllBytes numberFrom
 two-bytes [] h = omega arith
 two-bytes (a ∷ []) h = omega (arith, h .0)

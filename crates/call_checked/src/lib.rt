@@ -1,4 +1,4 @@
-// Lines spoken to a table that was checked, and the line that opens one: read, tried in 01's order, answered. A refusal changes nothing.
+// Lines to a table that was checked, and the line that opens one: read, tried in 01's order, answered. A refusal changes nothing.
 ghost use mathlib.Core.Path.{_≡_};
 ghost use Prim.Native.Nat.{_≤_};
 ghost use lib.ListN.{length, take};

@@ -1,4 +1,4 @@
-// Questions told in characters: a list goes straight from the rows into its line, value by value.
+// Questions answered in characters: a list goes straight from the rows into its line, value by value.
 ghost use mathlib.Core.Path.{_≡_};
 ghost use mathlib.Core.Bool.{cond};
 ghost use Prim.Native.Nat.{_+_, _*_, _≤_};

@@ -1,3 +1,2 @@
 pub mod Judging
 pub mod Resaving
-pub mod Again

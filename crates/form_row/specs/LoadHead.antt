@@ -13,5 +13,5 @@ pub record LoadHead (words : List ℕ) : Type 0 where
   pub objects : objectsIn words ≤ mostObjects
   pub within : countIn words ≤ capacityIn words
   pub long : clockAt ≤ length words
-  pub square : sizeIn words * sizeIn words ≤ 256
+  pub square : sizeIn words * sizeIn words ≤ greatestSize * greatestSize
   pub room : spaceFor (sizeIn words) (capacityIn words) ≤ length words

@@ -2,13 +2,13 @@
 use mathlib.Core.Path.{_≡_, refl}
 use mathlib.Core.Bool.{Bool, true, false, not, cond}
 use mathlib.Core.List.{List, [], _∷_, _++_, map}
-use Prim.Native.Nat.{ℕ, suc, _+_, _≤_, _<_}
+use Prim.Native.Nat.{ℕ, suc, _+_, _≤_, _<_, _-_}
 use native.Mathlib.Omega.{arith}
 use borrow.Author.Tests.{eqb-false}
 use lib.Dec.{eqb}
 use lib.ListN.{length, length-append, length-map}
 use Rattle.meaning.specs.Operations.{isCounter}
-use Rattle.meaning.specs.Table.{Table, isTable, kindIn, mostObjects}
+use Rattle.meaning.specs.Table.{Table, isTable, kindIn, mostObjects, greatestSize, mostRows}
 use Rattle.meaning.proofs.TableFacts.{Facts, HeaderFacts, facts, header-facts}
 use Rattle.form_lines.specs.FormLines.{lastLine, totalLine, rowLine, closingLine}
 use Rattle.form_write.specs.Forms.{linesOf, lastLines, totalLines, rowLines, savedForm, mostFormLines}
@@ -41,7 +41,7 @@ module _ (t : Table) (h : isTable t ≡ true) where
   H : HeaderFacts (t .header)
   H = header-facts (t .header) (F .header-in-range)
 
-  lasts-count : length (lastLines t) ≤ 15
+  lasts-count : length (lastLines t) ≤ greatestSize - 1
   unfolding lastLines
   lasts-count = omega (arith, others-count (t .header .own) lastLine 0 (t .last) (omega arith) (omega (arith, F .own-in, F .last-length)), F .last-length, H .size-range .1)
 
@@ -49,7 +49,7 @@ module _ (t : Table) (h : isTable t ≡ true) where
   unfolding totalLines
   totals-count = omega (arith, lines-count (λ (object : ℕ). isCounter (kindIn (t .header) object)) totalLine 0 (t .totals), F .totals-length, H .objects-range .1)
 
-  rows-count : length (rowLines t) ≤ 513
+  rows-count : length (rowLines t) ≤ mostRows + 1
   unfolding rowLines
   rows-count = omega (arith, length-append (map (rowLine (t .header .size)) (t .rows)) (closingLine (length (t .rows)) ∷ []), length-map (t .rows) (rowLine (t .header .size)), F .within, H .capacity-range .1)
 

@@ -36,7 +36,7 @@ pub enum Sought {
     Behind(usize),
 }
 
-// What a line that was written to a space is told as.
+// What a line that was written to a space is given as.
 fn as_formed(w: Written) -> Formed
     ensures { λ r. ⌜ r ≡ formedOf w ⌝ }
 {

@@ -107,7 +107,7 @@ saveConditions line words place out =
     ∷ (10 when (ltb place (length form) && ltb (length out) (length (hexLine (getD form place [])))))
     ∷ []
 
--- The number of an answer, 0 where it is no refusal. A question's is `asks`' own.
+-- The number of an answer, 0 where it is no refusal. A question's is `question`'s own.
 unfoldable pub numberOfOpened : Opened → ℕ
 numberOfOpened (opened.Refused number) = number
 numberOfOpened opened.Fresh = 0

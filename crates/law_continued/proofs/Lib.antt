@@ -1,3 +1,4 @@
 pub mod Called
 pub mod LoadsExactly
 pub mod Saved
+pub mod Again

@@ -16,7 +16,7 @@ use Rattle.meaning.specs.Rows.{Row}
 use Rattle.meaning.specs.Table.{Table, totalBound}
 use Rattle.meaning.specs.Calls.{withRows}
 use Rattle.meaning.proofs.Tests.{cases, and-left, and-right}
-use Rattle.words_layout.specs.Words.{complement, ofComplement, wordLimit}
+use Rattle.words_layout.specs.Words.{complement, ofComplement, wordLimit, twoWordLimit}
 use Rattle.words_layout.specs.Layout.{wordsOf, withClock, withLast, withTotals, totalOfWords}
 use Rattle.words_layout.proofs.Pieces.{Each}
 use Rattle.words_layout.proofs.RowWords.{Shaped, high-of, low-of}
@@ -142,7 +142,7 @@ module _ (t : Table) (F : Fresh t) where
   }
 
 -- two words say a total in range, and are its words
-said-range : (n : ℕ) → n < 18446744073709551616 → InRange (ofComplement n)
+said-range : (n : ℕ) → n < twoWordLimit → InRange (ofComplement n)
 unfolding ofComplement
 said-range n h = cases (ltb n 9223372036854775808)
     (λ e. rw e (ltb-true n 9223372036854775808 e))

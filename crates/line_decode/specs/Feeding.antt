@@ -1,6 +1,6 @@
 -- Characters that come one after the other: each joins the line in its space, and LF ends it, so that it is answered and the next line begins at the front.
 -- What an answer does to what is held from one line to the next is a function of the program that reads.
-use Prim.Native.Nat.{ℕ, _+_, _*_}
+use Prim.Native.Nat.{ℕ, _+_}
 use mathlib.Core.Path.{_≡_}
 use mathlib.Core.List.{List, [], _∷_, _++_}
 use lib.Dec.{eqb}
@@ -8,7 +8,7 @@ use lib.ListN.{length, take}
 use Rattle.line_hex.specs.Choice.{pick}
 use Rattle.line_hex.specs.Hex.{lf}
 use Rattle.line_hex.specs.Keeping.{kept, keptAll}
-use Rattle.line_read.specs.Types.{longest}
+use Rattle.line_read.specs.Types.{lineRoom}
 
 -- the number of characters kept of the line that goes on, and the space
 unfoldable pub taken : List ℕ → ℕ → ℕ → ℕ × List ℕ
@@ -52,7 +52,7 @@ NoLf (b ∷ piece) = (b ≡ lf → ⊥) × NoLf piece
 -- a space as long as the longest line keeps so many characters of a line that came in, however long that is
 pub record Keeps (line space : List ℕ) (have : ℕ) : Type 0 where
   pub empty : List ℕ
-  pub long : length empty ≡ 2 * longest + 1
+  pub long : length empty ≡ lineRoom
   pub open-ended : NoLf line
   pub same : (have, space) ≡ keptAll empty 0 line
 

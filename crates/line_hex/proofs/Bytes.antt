@@ -2,7 +2,7 @@
 use Prim.Native.Nat.{ℕ, zero, suc, _+_, _*_, _/_, _%_, _<_, _^_}
 use mathlib.Core.Path.{_≡_, refl, sym, ap, _∙_}
 use mathlib.Core.List.{List, [], _∷_, _++_, append-assoc, append-nil}
-use native.Mathlib.Nat.{add-mul, mul-assoc, mul-comm, pow-succ'}
+use native.Mathlib.Nat.{mul-assoc, mul-comm, pow-succ'}
 use native.Mathlib.Omega.{arith}
 use lib.ListN.{length, getD, take, drop, length-append}
 use lib.Seq.{take-suc, length-take-le, take-all}
@@ -17,12 +17,6 @@ number-append n (x ∷ a) b = number-append (n * 256 + x) a b
 pub number-last : (n : ℕ) (a : List ℕ) (b : ℕ) → numberFrom n (a ++ (b ∷ [])) ≡ numberFrom n a * 256 + b
 unfolding numberFrom
 number-last n a b = number-append n a (b ∷ [])
-
--- a number of k more bytes is so many times as large: 8 bytes are 4 and 4
-pub number-shift : (n : ℕ) (b : List ℕ) → numberFrom n b ≡ n * 256 ^ length b + numberOf b
-unfolding numberFrom
-number-shift n [] = omega arith
-number-shift n (x ∷ b) = number-shift (n * 256 + x) b ∙ rw (number-shift (0 * 256 + x) b, add-mul (n * 256) x (256 ^ length b), mul-assoc n 256 (256 ^ length b), pow-succ' 256 (length b)) (omega arith)
 
 pub length-bigEndian : (width n : ℕ) → length (bigEndian width n) ≡ width
 unfolding bigEndian

@@ -18,7 +18,7 @@ use Rattle.line_hex.proofs.Writing.{digits-at-append, length-digits, length-dig
 use Rattle.line_shape.specs.Shapes.{lengthOf, written}
 use Rattle.line_shape.proofs.Spelling.{length-written}
 use Rattle.line_shape.proofs.Taking.{head-small}
-use Rattle.line_put.specs.Writing.{lineBytes, lineWritten, refusalOf, Writable, writtenEach}
+use Rattle.line_put.specs.Writing.{lineBytes, lineWritten, refusalOf, Writable, writtenEach, twoByteLimit}
 use Rattle.line_put.specs.declared.Written.{Written}
 use Rattle.line_put.specs.declared.Written.the-variants.{Characters, TooShort}
 use Rattle.line_put.proofs.Laying.{length-written-each}
@@ -36,8 +36,8 @@ line-laid space bytes h =
     rw (size, front, drop-cons space (2 * length bytes) 0 h, append-assoc (digitsOf bytes) (lf ∷ []) (drop (suc (2 * length bytes)) space)) (set-at (digitsOf bytes) _ (drop (suc (2 * length bytes)) space) lf (2 * length bytes) (length-digits bytes))
 
 module _ (space widths fields : List ℕ) (width : ℕ) (numbers : List ℕ) (W : Writable widths fields width numbers) where
-  each-small : width * length numbers ≤ 262140
-  each-small = let few : length numbers ≤ 65536 - 1 = omega (arith, W .counted) in omega (arith, mul-le-mul (W .slim) few)
+  each-small : width * length numbers ≤ 4 * (twoByteLimit - 1)
+  each-small = let few : length numbers ≤ twoByteLimit - 1 = omega (arith, W .counted) in omega (arith, mul-le-mul (W .slim) few)
 
   size-of-line : length (lineBytes widths fields width numbers) ≡ lengthOf widths + width * length numbers
   unfolding lineBytes

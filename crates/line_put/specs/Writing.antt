@@ -35,9 +35,13 @@ refusalOf TooShort = 10
 abbrev pub Countable : List ℕ → Type 0
 Countable numbers = length numbers < 256
 
+-- one more than two bytes can say
+abbrev pub twoByteLimit : ℕ
+twoByteLimit = 65536
+
 -- no more than a count of two bytes can say, as a list's is
 abbrev pub Listable : List ℕ → Type 0
-Listable numbers = length numbers < 65536
+Listable numbers = length numbers < twoByteLimit
 
 -- what can be written: as many fields as widths, and not too many numbers behind them
 pub record Writable (widths fields : List ℕ) (width : ℕ) (numbers : List ℕ) : Type 0 where

@@ -56,11 +56,7 @@ pub const OPENING_WIDTHS: [u8; 5] = [1, 1, 1, 2, 1];
 
 pub const OPERATION_WIDTHS: [u8; 6] = [1, 1, 1, 1, 1, 4];
 
-pub const ISSUE_WIDTHS: [u8; 4] = [1, 1, 1, 4];
-
 pub const SETTLING_WIDTHS: [u8; 2] = [1, 2];
-
-pub const QUESTION_WIDTHS: [u8; 4] = [1, 1, 1, 4];
 
 pub const CLOCK_WIDTHS: [u8; 1] = [1];
 

@@ -1,5 +1,5 @@
 -- "every frame and saved line we write reads back as what was written, and nothing else is accepted as its spelling": fields of any widths.
-use Prim.Native.Nat.{ℕ, zero, suc, _+_, _*_, _≤_, _<_, _^_}
+use Prim.Native.Nat.{ℕ, zero, suc, _+_, _*_, _≤_}
 use mathlib.Core.Path.{_≡_, refl, sym, ap, _∙_}
 use mathlib.Core.Bool.{true}
 use mathlib.Core.List.{List, [], _∷_, _++_, append-assoc}
@@ -89,17 +89,3 @@ pub length-of-narrow : (widths : List ℕ) → narrow widths ≡ true → length
 unfolding lengthOf
 length-of-narrow [] h = omega arith
 length-of-narrow (w ∷ widths) h = omega (arith, leb-true w 4 (and-left (leb w 4) (narrow widths) h), length-of-narrow widths (and-right (leb w 4) (narrow widths) h))
-
--- fields that fit, one shape behind another, and numbers of one width
-
-pub fitting-append : (a b fields more : List ℕ) → Fitting a fields → Fitting b more → Fitting (a ++ b) (fields ++ more)
-unfolding Fitting
-fitting-append [] b [] more h k = k
-fitting-append [] b (n ∷ fields) more h k = absurd h
-fitting-append (w ∷ a) b [] more h k = absurd h
-fitting-append (w ∷ a) b (n ∷ fields) more h k = (h .0, fitting-append a b fields more (h .1) k)
-
-pub fitting-each : (w : ℕ) (numbers : List ℕ) → ((i : ℕ) → getD numbers i 0 < 256 ^ w) → Fitting (replicate (length numbers) w) numbers
-unfolding Fitting
-fitting-each w [] h = tt
-fitting-each w (n ∷ numbers) h = (h 0, fitting-each w numbers (λ i. h (suc i)))

@@ -14,7 +14,7 @@ use Rattle.meaning.specs.Tests.{every, everyAt, between}
 use Rattle.meaning.specs.Order.{Vector, entryLimit, atMost, same, othersOf, lowOf}
 use Rattle.meaning.specs.Operations.{Operation, numberOf, isCounter, isFlag, clears, valueAllowed, valueLimit, greatestAmount}
 use Rattle.meaning.specs.Rows.{Row, settledRow, inOrder}
-use Rattle.meaning.specs.Table.{Header, Table, kindIn, low, headerRules, inRange, clockRule, lastRule, lastsRule, totalRule, totalsRule, storable, settledOnly, tagRule, rowRule, oneRowAValue, tableRules, isTable, greatestSize, greatestCapacity, mostObjects}
+use Rattle.meaning.specs.Table.{Header, Table, kindIn, low, headerRules, inRange, clockRule, lastRule, lastsRule, totalRule, totalsRule, storable, settledOnly, tagRule, rowRule, oneRowAValue, tableRules, isTable, greatestSize, greatestCapacity, mostObjects, greatestKind}
 use Rattle.meaning.proofs.Tests.{cases, and-left, and-right, and-both, fails-not, not-holds, or-cases, or-left, or-right, every-out, every-in, every-at, at-every, rule-at, between-out}
 use Rattle.meaning.proofs.Vectors.{at-most-trans, same-eq, eq-same, low-under, others-mem, others-first}
 use Rattle.meaning.proofs.Ascending.{Sorted, order-sorted, sorted-order}
@@ -36,7 +36,7 @@ pub record RowFacts (table : Table) (row : Row) : Type 0 where
 pub record Facts (table : Table) : Type 0 where
   pub header-in-range : inRange (table .header) ≡ true
   pub own-in : table .header .own < table .header .size
-  pub kind-range : (o : ℕ) → o < length (table .header .kinds) → (1 ≤ kindIn (table .header) o) × (kindIn (table .header) o ≤ 9)
+  pub kind-range : (o : ℕ) → o < length (table .header .kinds) → (1 ≤ kindIn (table .header) o) × (kindIn (table .header) o ≤ greatestKind)
   pub clock-length : length (table .clock) ≡ table .header .size
   pub clock-words : every (λ (entry : ℕ). ltb entry entryLimit) (table .clock) ≡ true
   pub last-length : length (table .last) ≡ table .header .size
@@ -130,7 +130,7 @@ pub record HeaderFacts (header : Header) : Type 0 where
   pub size-range : (1 ≤ header .size) × (header .size ≤ greatestSize)
   pub own-in : header .own < header .size
   pub objects-range : (1 ≤ length (header .kinds)) × (length (header .kinds) ≤ mostObjects)
-  pub kind-range : (o : ℕ) → o < length (header .kinds) → (1 ≤ kindIn header o) × (kindIn header o ≤ 9)
+  pub kind-range : (o : ℕ) → o < length (header .kinds) → (1 ≤ kindIn header o) × (kindIn header o ≤ greatestKind)
   pub capacity-range : (1 ≤ header .capacity) × (header .capacity ≤ greatestCapacity (header .size))
 
 -- "header in opening's ranges"
@@ -142,7 +142,7 @@ header-facts header e =
       size-range = between-out 1 greatestSize (header .size) (rule 0);
       own-in = ltb-true (header .own) (header .size) (rule 1);
       objects-range = between-out 1 mostObjects (length (header .kinds)) (rule 2);
-      kind-range = λ o h. between-out 1 9 (getD (header .kinds) o 0) (every-place (between 1 9) (header .kinds) (rule 3) o h);
+      kind-range = λ o h. between-out 1 greatestKind (getD (header .kinds) o 0) (every-place (between 1 greatestKind) (header .kinds) (rule 3) o h);
       capacity-range = between-out 1 (greatestCapacity (header .size)) (header .capacity) (rule 4);
     }
 

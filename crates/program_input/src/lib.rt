@@ -1,5 +1,5 @@
 // Input cut into lines for every program: a byte joins the line that goes on, and a line that ends goes to the session or form that it is of.
-ghost use mathlib.Core.Bool.{_&&_};
+ghost use mathlib.Core.Bool.{false, true, _&&_};
 ghost use mathlib.Core.Path.{_≡_};
 ghost use Prim.Native.Nat.{_≤_};
 ghost use lib.ListN.{length, take};
@@ -287,7 +287,7 @@ pub fn read(
 
 // Before any input: no character of a line, and no output.
 pub fn start(source: Source) -> Kept
-    ensures { λ r. ⌜ (r .have ≡ 0) × ((r .part .source ≡ source) × (r .part .waiting .count ≡ 0)) ⌝ }
+    ensures { λ r. ⌜ (r .have ≡ 0) × ((r .part .source ≡ source) × ((r .part .waiting .count ≡ 0) × (r .part .waiting .open ≡ true))) ⌝ }
 {
     let waiting = Waiting {
         count: 0,

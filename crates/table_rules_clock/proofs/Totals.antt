@@ -45,7 +45,7 @@ module _ (clock : Vector) (sum i : ℕ) (S : Summed clock sum i) where
   sum-done h =
       let w : sum + 0 ≡ sumOfEntries clock = rw (drop-of-length-le clock {i = i} h) at (S .whole) in omega arith
 
-  pub sum-bounded : sum ≤ 68719476736
+  pub sum-bounded : sum ≤ greatestSize * entryLimit
   sum-bounded = omega (arith, S .bounded, S .few, S .within)
 
 pub bound-there : (clock : Vector) (sum : ℕ) → sum ≡ sumOfEntries clock → greatestAmount * sum ≡ totalBound clock

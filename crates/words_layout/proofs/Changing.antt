@@ -20,7 +20,7 @@ use Rattle.words_layout.proofs.Whole.{fit, length-padded, totals-long, 
 use Rattle.words_layout.proofs.Reading.{in-a-row, InRange, Well, table-read, short}
 
 -- every 64-bit code reads as a total in range
-read-in-range : (code : ℕ) → code < 18446744073709551616 → InRange (ofComplement code)
+read-in-range : (code : ℕ) → code < twoWordLimit → InRange (ofComplement code)
 unfolding ofComplement
 read-in-range code h = cases (ltb code 9223372036854775808)
     (λ p. rw p (ltb-true code 9223372036854775808 p))

@@ -11,7 +11,7 @@ use lib.ListN.{length, take, drop, replicate, length-map}
 use lib.Seq.{take-at, drop-at, drop-drop, take-append-seam}
 use Rattle.meaning.specs.Rows.{Row}
 use Rattle.meaning.specs.Table.{Table, mostObjects}
-use Rattle.words_layout.specs.Words.{complement, ofComplement, pieces, flat, padded, wordLimit}
+use Rattle.words_layout.specs.Words.{complement, ofComplement, pieces, flat, padded, wordLimit, twoWordLimit}
 use Rattle.words_layout.specs.Layout.{tableMark, totalWords, totalOfWords, totalsWords, rowWords, rowOf, rowsWords, wordsOf, tableOf, sizeIn, objectsIn, rowsAt, kindsAt, clockAt, totalsAt, totalsWidth}
 use Rattle.words_layout.proofs.Pieces.{Each, map-back, pieces-at, length-flat}
 use Rattle.words_layout.proofs.RowWords.{Shaped, row-read}
@@ -33,11 +33,11 @@ InRange (negsuc n) = n < 9223372036854775808
 
 pub total-read : (z : ℤ) → InRange z → ofComplement (complement z) ≡ z
 unfolding ofComplement complement
-total-read (pos n) h = let e : n % 18446744073709551616 ≡ n = omega arith in rw (e, lt-ltb n 9223372036854775808 h) refl
+total-read (pos n) h = let e : n % twoWordLimit ≡ n = omega arith in rw (e, lt-ltb n 9223372036854775808 h) refl
 total-read (negsuc n) h =
-    let e : n % 18446744073709551616 ≡ n = omega arith in
-    let b : 18446744073709551615 - (18446744073709551615 - n) ≡ n = omega arith in
-    rw (e, le-ltb (18446744073709551615 - n) 9223372036854775808 (omega arith), b) refl
+    let e : n % twoWordLimit ≡ n = omega arith in
+    let b : (twoWordLimit - 1) - ((twoWordLimit - 1) - n) ≡ n = omega arith in
+    rw (e, le-ltb ((twoWordLimit - 1) - n) 9223372036854775808 (omega arith), b) refl
 
 pub two-read : (z : ℤ) → InRange z → totalOfWords (totalWords z) ≡ z
 two-read z h = rw (div-add-mod' (complement z) wordLimit) (total-read z h)

@@ -41,11 +41,6 @@ pub record Spelt (n : ℕ) (ws : List ℕ) : Type 0 where
   pub number : getD ws 6 0 ≡ getD (drop 7 ws) (getD ws 5 0) 0
   pub bare : getD ws 4 0 ≡ 0 → (getD ws 5 0 ≡ 0) × (drop 7 ws ≡ replicate n 0)
 
-open-word : (e : ℕ) → e ≤ 1 → cond (eqb e 0) 0 1 ≡ e
-open-word zero h = refl
-open-word (suc zero) h = refl
-open-word (suc (suc e)) h = absurd (omega arith)
-
 pub high-of : (h l : ℕ) → l < wordLimit → (h * wordLimit + l) / wordLimit ≡ h
 high-of h l b = omega arith
 

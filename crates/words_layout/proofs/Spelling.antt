@@ -9,7 +9,7 @@ use lib.Dec.{ltb}
 use lib.ListN.{length, getD, take, drop, replicate, length-drop, length-map, take-append-drop}
 use lib.Seq.{drop-drop, take-add, length-take-le, getD-drop}
 use Rattle.meaning.proofs.Tests.{cases}
-use Rattle.words_layout.specs.Words.{complement, ofComplement, ofTwoWords, pieces, flat, padded, wordLimit}
+use Rattle.words_layout.specs.Words.{complement, ofComplement, ofTwoWords, pieces, flat, padded, wordLimit, twoWordLimit}
 use Rattle.words_layout.specs.Layout.{tableMark, totalWords, totalOfWords, totalsWords, rowWords, rowOf, wordsOf, tableOf, rewritten, beyond, spaceFor, rowsAt, rowsIn, sizeIn, capacityIn, objectsIn, countIn, clockAt, totalsAt, totalsWidth}
 use Rattle.words_layout.proofs.Pieces.{Each, map-back, flat-pieces, length-pieces}
 use Rattle.words_layout.proofs.RowWords.{Spelt, row-written}
@@ -17,7 +17,7 @@ use Rattle.words_layout.proofs.Reading.{in-a-row}
 use Rattle.meaning.specs.Table.{mostObjects}
 
 -- two words are what would be written for the total that they spell
-pub code-read : (t : ℕ) → t < 18446744073709551616 → complement (ofComplement t) ≡ t
+pub code-read : (t : ℕ) → t < twoWordLimit → complement (ofComplement t) ≡ t
 unfolding complement ofComplement
 code-read t h = cases (ltb t 9223372036854775808) (λ p. rw p (omega arith)) (λ p. rw p (omega (arith, ltb-false t 9223372036854775808 p)))
 
