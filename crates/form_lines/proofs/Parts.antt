@@ -25,6 +25,7 @@ use Rattle.line_put.specs.Writing.{lineWritten}
 use Rattle.line_put.specs.declared.Written.{Written}
 use Rattle.line_print.specs.Printed.{printed}
 use Rattle.form_lines.specs.FormLines.{openingLine, clockLine, lastLine, totalLine, rowLine, rowLineAt, closingLine}
+use Rattle.meaning.specs.Table.{greatestSize}
 
 -- parts of lists one by one
 each-at : {A : Type 0} (P : A → Type 0) (l : List A) → Each P l → (k : ℕ) (d : A) → k < length l → P (getD l k d)
@@ -73,7 +74,7 @@ total-written s out o h l w r x e = e ∙ ap (λ (words : List ℕ). printed out
 
 -- L of a station
 module _ (s : List ℕ) (K : Checked s) (k n i : ℕ) (h : k < sizeIn s) (en : n ≡ sizeIn s) (ei : i ≡ k) where
-  vectors-small : n * n ≤ 256
+  vectors-small : n * n ≤ greatestSize * greatestSize
   vectors-small = rw en (K .square)
 
   ahead-small : i * n + n ≤ n * n

@@ -45,6 +45,11 @@ ready-start have count line pending z y l p = record {
   has-room = record { within = omega arith; room = omega arith };
 }
 
+-- what was read from a start that is known
+pub begun : (titles : Bool) (line₀ : List ℕ) (have₀ : ℕ) (of₀ : Source) (words₀ line : List ℕ) (have : ℕ) (state : State) → have₀ ≡ 0 → (of : Source) → of₀ ≡ of → Read titles line₀ have₀ (of₀, words₀) line have state → Read titles line₀ 0 (of, words₀) line have state
+begun titles line₀ have₀ of₀ words₀ line have state z of e read =
+    subst (λ (n : ℕ). Read titles line₀ n (of, words₀) line have state) z (subst (λ (s : Source). Read titles line₀ have₀ (s, words₀) line have state) e read)
+
 -- the ways through take
 module _ (space : List ℕ) (have b n : ℕ) (s : List ℕ) (e : (n, s) ≡ kept space have b) (count : ℕ) (pending : List ℕ) (R : Ready have count space pending) where
   taken-going : (m : ℕ) → (m, s) ≡ taken space have b → Going s m

@@ -5,8 +5,9 @@ ghost use Prim.Native.Nat.{_≤_};
 ghost use lib.ListN.{length, take};
 ghost use Rattle.words_layout.specs.Layout.{mostWords};
 ghost use Rattle.line_decode.specs.Feeding.{fed, heldFed, heldTaken, taken};
+ghost use Rattle.line_read.specs.Types.{lineRoom};
 ghost use Rattle.calls.specs.Answers.{longestAnswer};
-ghost use Rattle.program_output.specs.Gathering.{HasRoom};
+ghost use Rattle.program_output.specs.Gathering.{HasRoom, pendingRoom};
 ghost use Rattle.program_input.specs.Lines.{begins, ended, isTitle, lastEnded, played, responded, turned};
 ghost use Rattle.program_input.specs.Reading.{AfterRead, Read, Ready, WholeLast, WholeResponded};
 use form_judge::Judged;
@@ -319,20 +320,23 @@ pub fn end(titles: bool, space: &mut [u32], line: &[u8], pending: &mut [u8], kep
     finish(space, pending, last)
 }
 
+// All of standard input, without titles, from its start.
+fn read_all(source: Source, space: &mut [u32], line: &mut [u8], pending: &mut [u8]) -> Kept
+    requires { ⌜ (length (now space) ≡ mostWords) × ((length (now line) ≡ lineRoom) × (length (now pending) ≡ pendingRoom)) ⌝ }
+    ensures { λ r. ⌜ Read false (now (line .entry)) 0 (source, now (space .entry))
+        (now (line .exit)) (r .have) (r .part .source, now (space .exit))
+        × Ready (r .have) (r .part .waiting .count) (now (line .exit)) (now (pending .exit)) ⌝ }
+{
+    let first = start(source);
+    read(STDIN_FILENO, false, space, line, pending, first)
+}
+
 // A whole program on standard input without titles: a session, or a form.
 pub fn run(source: Source) {
     let mut space = [0u32; MOST_WORDS];
     let mut line = [0u8; LINE];
     let mut pending = [0u8; PENDING];
-    let first = start(source);
-    let kept = read(
-        STDIN_FILENO,
-        false,
-        &mut space,
-        &mut line,
-        &mut pending,
-        first,
-    );
+    let kept = read_all(source, &mut space, &mut line, &mut pending);
     let last = end(false, &mut space, &line, &mut pending, kept);
     program_output::flush(&pending, last);
 }

@@ -1,5 +1,4 @@
 -- `program_input::run` meets its contract.
-use Rattle.program_input.proofs.Feeding.{ready-start}
 use borrow.Author.Needs.{needs}
 use Rattle.program_input.proofs.run.Statement.{statement}
 use Rattle.program_input.proofs.run.Tie as tie
@@ -8,11 +7,10 @@ pub run-spec : {M : Type 1} → statement M
 run-spec =
     tie.close
     (tie.spec
+    (λ c. search needs)
+    (λ c. search needs)
+    (λ c. search needs)
     (λ c κs. search needs)
-    (λ c. search needs)
-    (λ c. search needs)
-    (λ c. search needs)
-    (λ c κs. (search needs, search (ready-start, needs)))
     (λ c. search needs)
     (λ c. search needs)
     (λ c. search needs)
