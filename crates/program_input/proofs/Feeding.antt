@@ -21,10 +21,10 @@ use Rattle.program_output.specs.Gathering.{HasRoom, pendingRoom, replied, repri
 use Rattle.program_input.specs.declared.Kept.{Kept}
 use Rattle.program_input.specs.declared.More.{More}
 use Rattle.program_input.specs.declared.More.the-variants as more
-use Rattle.program_input.specs.Lines.{ended, isTitle, Part, played, responded, State, stateOf, stepped, turned}
+use Rattle.program_play.specs.Lines.{ended, isTitle, Part, played, responded, State, stateOf, stepped, turned}
 use Rattle.program_input.specs.Reading.{AfterRead, Read, Ready, WholeResponded}
 use Rattle.program_input.proofs.Along.{fed-along}
-use Rattle.program_input.proofs.Lines.{played-alike}
+use Rattle.program_play.proofs.Lines.{played-alike}
 
 going-long : (space : List ℕ) (have : ℕ) → Going space have → length space ≡ lineRoom
 going-long space have G = ap (λ (q : ℕ × List ℕ). length (q .1)) (G .keeps .same) ∙ length-kept-all (G .keeps .empty) 0 (G .line) ∙ G .keeps .long

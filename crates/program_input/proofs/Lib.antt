@@ -1,4 +1,4 @@
 pub mod Along
 pub mod Feeding
-pub mod Lines
+pub mod Ending
 pub mod Programs

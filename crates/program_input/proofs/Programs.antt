@@ -7,7 +7,7 @@ use Rattle.line_decode.specs.Feeding.{afterLines, atEnd, heldFed}
 use Rattle.form_judge.specs.Judging.{Judging, judgedBy, judgedEnd}
 use Rattle.program_output.specs.declared.Source.the-variants as source
 use Rattle.program_output.specs.Gathering.{Gathered, Held, replied, reprinted}
-use Rattle.program_input.specs.Lines.{ended, lastEnded, Part, played, responded, State, stepped}
+use Rattle.program_play.specs.Lines.{ended, lastEnded, Part, played, responded, State, stepped}
 use Rattle.program_input.proofs.Along.{end-along, fed-along, lines-along}
 
 abbrev pub session : Held → Part

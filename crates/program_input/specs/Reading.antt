@@ -7,7 +7,7 @@ use Rattle.line_decode.specs.Feeding.{fed, Going, heldFed, Keeps, WholeLines}
 use Rattle.program_output.specs.Gathering.{Held, HasRoom}
 use Rattle.program_input.specs.declared.More.{More}
 use Rattle.program_input.specs.declared.More.the-variants as more
-use Rattle.program_input.specs.Lines.{lastEnded, Part, responded, State, stepped}
+use Rattle.program_play.specs.Lines.{lastEnded, Part, responded, State, stepped}
 
 -- Input may go on: a line's space holds what was kept of a line, and the space of what waits has room for any output line.
 pub record Ready (have count : ℕ) (line pending : List ℕ) : Type 0 where

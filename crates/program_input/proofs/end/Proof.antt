@@ -1,5 +1,5 @@
 -- `program_input::end` meets its contract.
-use Rattle.program_input.proofs.Lines.{no-last-line, nothing-left, piece-left, whole-last-line}
+use Rattle.program_input.proofs.Ending.{no-last-line, nothing-left, piece-left, whole-last-line}
 use Rattle.program_input.proofs.Feeding.{ready-short, ready-within}
 use borrow.Author.Needs.{needs}
 use Rattle.program_input.proofs.end.Statement.{statement}

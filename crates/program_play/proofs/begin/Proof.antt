@@ -1,8 +1,8 @@
--- `program_input::begin` meets its contract.
-use Rattle.program_input.proofs.Lines.{begins-form, begins-session, begins-short}
+-- `program_play::begin` meets its contract.
+use Rattle.program_play.proofs.Lines.{begins-form, begins-session, begins-short}
 use borrow.Author.Needs.{needs}
-use Rattle.program_input.proofs.begin.Statement.{statement}
-use Rattle.program_input.proofs.begin.Tie as tie
+use Rattle.program_play.proofs.begin.Statement.{statement}
+use Rattle.program_play.proofs.begin.Tie as tie
 
 returns : tie.Need-returns
 returns c = search begins-short

@@ -1,9 +1,9 @@
--- `program_input::is_title` meets its contract.
-use Rattle.program_input.proofs.Lines.{by-second, other-no-title, short-no-title, without-titles}
+-- `program_play::is_title` meets its contract.
+use Rattle.program_play.proofs.Lines.{by-second, other-no-title, short-no-title, without-titles}
 use borrow.Author.Tests.{not-false, not-true}
 use borrow.Author.Needs.{needs}
-use Rattle.program_input.proofs.is_title.Statement.{statement}
-use Rattle.program_input.proofs.is_title.Tie as tie
+use Rattle.program_play.proofs.is_title.Statement.{statement}
+use Rattle.program_play.proofs.is_title.Tie as tie
 
 returns : tie.Need-returns
 returns c = search (without-titles, not-true)

@@ -7,10 +7,7 @@ use native.Mathlib.Omega.{arith}
 use borrow.Author.Tests.{eq-eqb, ne-eqb}
 use lib.Dec.{eqb}
 use lib.ListN.{length, getD, take, drop, replicate, drop-of-length-le}
-use lib.Seq.{length-take-le}
 use Rattle.line_decode.specs.Decoding.{bytesOf, typeOf}
-use Rattle.line_decode.specs.Feeding.{atEnd}
-use Rattle.line_decode.proofs.Feeding as keeping
 use Rattle.form_judge.specs.declared.Judged.{Judged}
 use Rattle.form_judge.specs.declared.Judged.the-variants as judged
 use Rattle.form_judge.specs.Judging.{judgedBy, judgedEnd}
@@ -19,8 +16,7 @@ use Rattle.program_output.specs.declared.Source.{Source}
 use Rattle.program_output.specs.declared.Source.the-variants as source
 use Rattle.program_output.specs.Gathering.{Gathered, Held, pushed, put, reprinted}
 use Rattle.program_output.proofs.Alike.{replied-alike}
-use Rattle.program_input.specs.Lines.{begins, dash, ended, formSign, isTitle, lastEnded, Part, played, responded, turned}
-use Rattle.program_input.specs.Reading.{WholeLast}
+use Rattle.program_play.specs.Lines.{begins, dash, ended, formSign, isTitle, Part, played, responded, turned}
 
 no-and : (b : Bool) → false ≡ (b && false)
 no-and true = refl
@@ -109,30 +105,3 @@ pub played-alike : (a b : List ℕ) → bytesOf a ≡ bytesOf b → typeOf a ≡
 unfolding responded played
 played-alike a b same type (source.Session, held) = ap (λ (h : Held). (source.Session, h)) (replied-alike a b same type held)
 played-alike a b same type (source.Form known, (words, waiting)) = ap (λ (j : Judged × List ℕ). (source.Form (j .0), (j .1, waiting))) (judged-alike a b same type (known, words))
-
--- the ways of the end
-module _ (titles : Bool) (line : List ℕ) (have : ℕ) (part : Part) (after : Held) where
-  pub nothing-left : have ≡ 0 → after ≡ ended part → after ≡ lastEnded titles (take have line) part
-  unfolding lastEnded atEnd
-  nothing-left z e = rw z e
-
-  pub piece-left : (have ≡ 0 → ⊥) → have ≤ length line → (next : Part) → next ≡ responded titles (take (have - 0) line) part → after ≡ ended next → after ≡ lastEnded titles (take have line) part
-  unfolding lastEnded atEnd
-  piece-left h l next e f =
-      let z : have - 0 ≡ have = omega arith in
-      f ∙ ap ended e ∙ ap (λ (n : ℕ). ended (responded titles (take n line) part)) z ∙ by (take have line) (omega (arith, length-take-le have line l))
-    where
-      by : (piece : List ℕ) → 0 < length piece → ended (responded titles piece part) ≡ ended (atEnd (responded titles) piece part)
-      by [] g = absurd (omega arith)
-      by (b ∷ piece) g = refl
-
--- and the whole of the last line, where only so much was kept
-pub no-last-line : (titles : Bool) (line : List ℕ) (have : ℕ) (part : Part) (after : Held) → have ≡ 0 → after ≡ ended part → WholeLast titles line have part after
-unfolding lastEnded
-no-last-line true line have part after z e = tt
-no-last-line false line have part after z e = λ whole K. e ∙ ap ended (keeping.nothing-left (responded false) played-alike line have part z whole K)
-
-pub whole-last-line : (titles : Bool) (line : List ℕ) (have : ℕ) (part next : Part) (after : Held) → (have ≡ 0 → ⊥) → next ≡ responded titles (take (have - 0) line) part → after ≡ ended next → WholeLast titles line have part after
-unfolding lastEnded
-whole-last-line true line have part next after h e f = tt
-whole-last-line false line have part next after h e f = λ whole K. f ∙ ap ended (keeping.piece-left (responded false) played-alike line have part next h e whole K)

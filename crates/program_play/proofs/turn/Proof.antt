@@ -1,8 +1,8 @@
--- `program_input::turn` meets its contract.
-use Rattle.program_input.proofs.Lines.{next-begun}
+-- `program_play::turn` meets its contract.
+use Rattle.program_play.proofs.Lines.{next-begun}
 use borrow.Author.Needs.{needs}
-use Rattle.program_input.proofs.turn.Statement.{statement}
-use Rattle.program_input.proofs.turn.Tie as tie
+use Rattle.program_play.proofs.turn.Statement.{statement}
+use Rattle.program_play.proofs.turn.Tie as tie
 
 returns : tie.Need-returns
 returns c = (search next-begun, search needs)

@@ -1,8 +1,8 @@
--- `program_input::respond` meets its contract.
-use Rattle.program_input.proofs.Lines.{line-played, title-turned}
+-- `program_play::respond` meets its contract.
+use Rattle.program_play.proofs.Lines.{line-played, title-turned}
 use borrow.Author.Needs.{needs}
-use Rattle.program_input.proofs.respond.Statement.{statement}
-use Rattle.program_input.proofs.respond.Tie as tie
+use Rattle.program_play.proofs.respond.Statement.{statement}
+use Rattle.program_play.proofs.respond.Tie as tie
 
 returns : tie.Need-returns
 returns c = (search title-turned, search needs)

@@ -1,8 +1,8 @@
--- `program_input::play` meets its contract.
-use Rattle.program_input.proofs.Lines.{form-played, session-played}
+-- `program_play::play` meets its contract.
+use Rattle.program_play.proofs.Lines.{form-played, session-played}
 use borrow.Author.Needs.{needs}
-use Rattle.program_input.proofs.play.Statement.{statement}
-use Rattle.program_input.proofs.play.Tie as tie
+use Rattle.program_play.proofs.play.Statement.{statement}
+use Rattle.program_play.proofs.play.Tie as tie
 
 returns : tie.Need-returns
 returns c = (search session-played, search needs)

@@ -1,8 +1,8 @@
--- `program_input::finish` meets its contract.
-use Rattle.program_input.proofs.Lines.{form-ended, session-ended}
+-- `program_play::finish` meets its contract.
+use Rattle.program_play.proofs.Lines.{form-ended, session-ended}
 use borrow.Author.Needs.{needs}
-use Rattle.program_input.proofs.finish.Statement.{statement}
-use Rattle.program_input.proofs.finish.Tie as tie
+use Rattle.program_play.proofs.finish.Statement.{statement}
+use Rattle.program_play.proofs.finish.Tie as tie
 
 returns : tie.Need-returns
 returns c = (search session-ended, search needs)
