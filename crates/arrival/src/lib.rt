@@ -1,4 +1,6 @@
 // An accepted operation changes a table in lent words: rows go, its own row is put, the clock is advanced, a counter's total is changed.
+#![tactic(auto)]
+
 ghost use Rattle.std.specs.Prelude.{◌≡◌, true, [], ◌*◌, ◌≤◌, ◌<◌, length};
 ghost use Rattle.meaning.specs.Arrival.{gets_row, rows_after};
 ghost use Rattle.meaning.specs.Rows.{insert_row, settled_row, unsettled_row};

@@ -1,4 +1,6 @@
 // A frame offered to a checked table in lent words: the number that it gets, and what it changes where it is accepted.
+#![tactic(auto)]
+
 ghost use Rattle.std.specs.Prelude.{◌≡◌, length, set};
 ghost use Rattle.meaning.specs.Refusals.{first_of, frame_refusals, refusal_of_frame};
 ghost use Rattle.meaning.specs.Calls.{after_arrival};

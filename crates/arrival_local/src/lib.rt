@@ -1,5 +1,7 @@
 // A local operation offered to a checked table in lent words: the number that it gets, its vector, and what it changes where it is accepted. Refusal 10, of
 // the space for its frame, is tried by the caller before anything is changed.
+#![tactic(auto)]
+
 ghost use Rattle.std.specs.Prelude.{◌≡◌};
 ghost use Rattle.meaning.specs.Order.{raised};
 ghost use Rattle.meaning.specs.Table.{greatest_size};

@@ -62,7 +62,7 @@ second_opening line = refusal_bytes (pick (opening_read (bytes_of line)).ok 13 1
 
 -- An answer that changes the space, and one that does not.
 abbrev pub changing : {A : Type 0} → (A → List ℕ) → A × List ℕ → List ℕ × List ℕ
-changing bytesOfAnswer (answer, words) = (bytesOfAnswer answer, words)
+changing bytes_of_answer (answer, words) = (bytes_of_answer answer, words)
 
 -- By the line's kind: "Lines of type `50` to `5f` are of unknown type here (1)", and a `60` line that is answered with one line is misshapen.
 unfoldable pub answer_on : LineKind → List ℕ → List ℕ → List ℕ × List ℕ

@@ -1,4 +1,6 @@
 // What the station program answers to a line at a table that was checked, written as the one line of its answer.
+#![tactic(auto)]
+
 ghost use Rattle.std.specs.Prelude.{◌≡◌, [], ◌∷◌, ◌≤◌, length};
 ghost use Rattle.table_rules.specs.Checked.{Checked};
 ghost use Rattle.line_put.specs.Writing.{line_written};
@@ -107,7 +109,7 @@ pub fn answer_line(space: &mut [u32], line: &[u8], kind: LineKind, out: &mut [u8
 }
 
 // What the station program answers: a line of so many characters, or nothing further.
-#[derive(Drop)]
+#[derive(Clone, Copy)]
 pub enum Answered {
     Line(usize),
     End,

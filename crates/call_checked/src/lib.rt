@@ -1,4 +1,6 @@
 // Lines to a table that was checked, and the line that opens one: read, tried in 01's order, answered. A refusal changes nothing.
+#![tactic(auto)]
+
 ghost use Rattle.std.specs.Prelude.{◌≡◌, ◌≤◌, length, take};
 ghost use Rattle.meaning.specs.Calls.{issue, open_table, receive};
 ghost use Rattle.words_layout.specs.Layout.{space_for, table_of};
@@ -14,28 +16,28 @@ use refusal_order::{Header, Sent};
 use words_tags::{RowCount, Station, Value};
 
 // What an opening answers: a refusal's number, or nothing but that the table is fresh.
-#[derive(Drop)]
+#[derive(Clone, Copy)]
 pub enum Opened {
     Refused(u32),
     Fresh,
 }
 
 // What a frame gets: a refusal's number, or nothing but that it is accepted.
-#[derive(Drop)]
+#[derive(Clone, Copy)]
 pub enum Received {
     Refused(u32),
     Accepted,
 }
 
 // What a local operation gets: a refusal's number, or how many characters its frame's line has in the lent space.
-#[derive(Drop)]
+#[derive(Clone, Copy)]
 pub enum Issued {
     Refused(u32),
     Frame(usize),
 }
 
 // What a settling call answers: a refusal's number, or how many steps it took.
-#[derive(Drop)]
+#[derive(Clone, Copy)]
 pub enum Settled {
     Refused(u32),
     Steps(RowCount),

@@ -1,4 +1,6 @@
 // Questions answered in characters: a list goes straight from the rows into its line, value by value.
+#![tactic(auto)]
+
 ghost use Rattle.std.specs.Prelude.{◌≡◌, cond, ◌+◌, ◌*◌, ◌≤◌, length};
 ghost use Rattle.meaning.specs.Table.{most_rows};
 ghost use Rattle.meaning.specs.Questions.{by_rows};

@@ -1,4 +1,6 @@
 // The public calls over a lent table space and a lent line. Each tries its refusals in 01's order, and a refusal changes nothing.
+#![tactic(auto)]
+
 ghost use Rattle.std.specs.Prelude.{◌≡◌, ◌≤◌, length};
 ghost use Rattle.call_checked.specs.Called.{opened_by};
 ghost use Rattle.line_decode.specs.Decoding.{type_of};

@@ -1,4 +1,6 @@
 // A saved form judged a line at a time: whether it is one, and what the second program prints in the end. Any words will do, and any line.
+#![tactic(auto)]
+
 ghost use Rattle.std.specs.Prelude.{◌≡◌};
 ghost use Rattle.form_judge.specs.Judging.{judged_as, judged_by, judged_end, resaved_by};
 
@@ -10,7 +12,7 @@ use refusal_number::WRONG;
 const PRINT: [u8; 3] = [b'6', b'0', line_hex::LF];
 
 // What is known of a form so far: it goes on, it is closed and its table there, or the number of its first refusal.
-#[derive(Drop)]
+#[derive(Clone, Copy)]
 pub enum Judged {
     Open,
     Closed,

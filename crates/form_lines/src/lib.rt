@@ -1,4 +1,6 @@
 // The lines of a table's saved form, each straight from the words of a checked table into a lent space.
+#![tactic(auto)]
+
 ghost use Rattle.std.specs.Prelude.{◌≡◌, cond, [], ◌+◌, ◌*◌, ◌<◌, ◌≤◌, eqb, pos, get_or, length};
 ghost use Rattle.words_layout.specs.Layout.{count_in, objects_in, rows_at, row_width, size_in, table_of};
 ghost use Rattle.table_rules.specs.Checked.{Checked};

@@ -1,4 +1,6 @@
 // A saved form read a line at a time into lent words: which line comes next, and that line taken. Any words will do, and any line.
+#![tactic(auto)]
+
 ghost use Rattle.std.specs.Prelude.{◌≡◌, true, ◌≤◌, length};
 ghost use Rattle.words_layout.specs.Layout.{clock_at};
 ghost use Rattle.line_decode.specs.Decoding.{bytes_of};
@@ -23,7 +25,7 @@ const OPENED: u32 = 1;
 const CLOCKED: usize = 2;
 
 // What comes next in a form: D, a station's last vector, a counter's total, a row or the closing line, or nothing that a load waits for.
-#[derive(Drop)]
+#[derive(Clone, Copy)]
 pub enum Next {
     Clock,
     Last(Station),

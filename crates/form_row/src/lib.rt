@@ -1,4 +1,6 @@
 // A row of a saved form joins those that a space under load has taken: its words, whether it may, and the row behind the last.
+#![tactic(auto)]
+
 ghost use Rattle.std.specs.Prelude.{◌≡◌, ◌++◌, ◌≤◌, ◌<◌, drop, length};
 ghost use Rattle.words_layout.specs.Layout.{capacity_in, count_in, row_width, size_in};
 ghost use Rattle.form_row.specs.LoadHead.{LoadHead};

@@ -1,4 +1,6 @@
 // The `60` line to a checked table: what is refused, and the line of its saved form at a place.
+#![tactic(auto)]
+
 ghost use Rattle.std.specs.Prelude.{◌≡◌};
 ghost use Rattle.words_layout.specs.Layout.{table_of};
 ghost use Rattle.table_rules.specs.Checked.{Checked};
@@ -9,7 +11,7 @@ use form_write::Formed;
 use refusal_number::{MISSHAPEN, NO_ROOM};
 
 // What saving gets: a refusal's number, how many characters the form's line has in the lent space, or that the form has no line there.
-#[derive(Drop)]
+#[derive(Clone, Copy)]
 pub enum Saved {
     Refused(u32),
     Line(usize),

@@ -1,5 +1,7 @@
 // A line of a saved form taken into a space under load, where it is the one that comes next. A wrong line leaves zeros; the closing line asks whether
 // the words are a table.
+#![tactic(auto)]
+
 ghost use Rattle.std.specs.Prelude.{◌≡◌, ◌+◌, ◌≤◌, ◌<◌, length};
 ghost use Rattle.words_layout.specs.Layout.{objects_in, size_in};
 ghost use Rattle.form_row.specs.LoadHead.{LoadHead};
@@ -14,7 +16,7 @@ use words_layout::{
 use words_tags::Station;
 
 // What a line of a form gets: a refusal's number, nothing but that it is taken, or that it closes the form and the table is there.
-#[derive(Drop)]
+#[derive(Clone, Copy)]
 pub enum Loaded {
     Refused(u32),
     Taken,

@@ -1,4 +1,6 @@
 // The saved form of a checked table, a line at a time: which line stands at a place, and that line written into a lent space.
+#![tactic(auto)]
+
 ghost use Rattle.std.specs.Prelude.{◌≡◌, ◌++◌, ◌+◌, ◌<◌};
 ghost use Rattle.words_layout.specs.Words.{word_limit};
 ghost use Rattle.words_layout.specs.Layout.{table_of};
@@ -18,7 +20,7 @@ const CLOCK_PLACE: usize = 1;
 const LASTS_PLACE: usize = 2;
 
 // What is asked for: a line of so many characters, no line any more, or a line that the space is too short for.
-#[derive(Drop)]
+#[derive(Clone, Copy)]
 pub enum Formed {
     Line(usize),
     End,
@@ -26,7 +28,7 @@ pub enum Formed {
 }
 
 // The counter behind so many others: its object, or what is left of the number when all counters are passed.
-#[derive(Drop)]
+#[derive(Clone, Copy)]
 pub enum Sought {
     At(usize),
     Behind(usize),

@@ -1,5 +1,7 @@
 // Lines decoded for the calls: characters that were kept one at a time, however the input was cut, read to bytes, and the bytes taken apart; what is no line is
 // decoded as no bytes, which have no shape.
+#![tactic(auto)]
+
 ghost use Rattle.std.specs.Prelude.{◌≡◌};
 ghost use Rattle.line_read.specs.Named.{issue_read, opening_read, operation_read, printing_read, question_read, settling_read};
 ghost use Rattle.line_decode.specs.Decoding.{bytes_of, decoded_into, type_of};
@@ -86,7 +88,7 @@ fn type_of(line: &[u8]) -> u8
 }
 
 // What a line is, by its type; a saved line is one of type `50` to `5f`.
-#[derive(Drop)]
+#[derive(Clone, Copy)]
 pub enum LineKind {
     Opening,
     Operation,

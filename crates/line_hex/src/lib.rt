@@ -1,4 +1,6 @@
 // Characters and bytes: a line of lower-case hexadecimal with its LF read to bytes, and numbers written as its digits.
+#![tactic(auto)]
+
 ghost use Rattle.std.specs.Prelude.{◌≡◌, ◌+◌, ◌*◌, ◌%◌, ◌≤◌, ◌<◌, drop, length};
 ghost use Rattle.line_hex.specs.Decoding.{decoded, ended_at, line_type, pair_of};
 ghost use Rattle.line_hex.specs.Hex.{digit_of, value_of};
@@ -28,21 +30,21 @@ const BYTE_VALUES: u32 = 256;
 const CHARACTERS: usize = 2;
 
 // A line's bytes are so many at the front of the buffer; or it is no line, or has more bytes than the buffer holds.
-#[derive(Drop)]
+#[derive(Clone, Copy)]
 pub enum Decoded {
     Bytes(usize),
     Malformed,
 }
 
 // What the first two characters of a line say.
-#[derive(Drop)]
+#[derive(Clone, Copy)]
 pub enum LineType {
     Is(u8),
     Unknown,
 }
 
 // Two characters: the digits of a byte, or not.
-#[derive(Drop)]
+#[derive(Clone, Copy)]
 pub enum Pair {
     Byte(u8),
     Other,

@@ -1,4 +1,6 @@
 // The lines that a station prints: answers, operations and the lines of a saved form, each straight into a lent space.
+#![tactic(auto)]
+
 ghost use Rattle.std.specs.Prelude.{◌≡◌, [], ◌∷◌, length};
 ghost use Rattle.line_read.specs.Types.{clock, closing, count, done, flag, last_vector, opening, operation, refused, row, sum, total};
 ghost use Rattle.line_print.specs.Printed.{printed};

@@ -1,11 +1,13 @@
 // Lines written straight into a lent space, by the widths of their fields.
+#![tactic(auto)]
+
 ghost use Rattle.std.specs.Prelude.{◌≡◌, [], ◌+◌, ◌*◌, ◌≤◌, length};
 ghost use Rattle.line_hex.specs.Putting.{put_at};
 ghost use Rattle.line_shape.specs.Shapes.{length_of, written};
 ghost use Rattle.line_put.specs.Writing.{line_bytes, line_written, Writable, written_each};
 
 // So many characters were written, LF included; or the space is too short for them and nothing was.
-#[derive(Drop)]
+#[derive(Clone, Copy)]
 pub enum Written {
     Characters(usize),
     TooShort,

@@ -1,4 +1,6 @@
 // The lines that a station reads and those of a saved form: a reader each, which gives the fields by name, with `ok` false and zeros where the shape is wrong.
+#![tactic(auto)]
+
 ghost use Rattle.std.specs.Prelude.{◌≡◌, ◌<◌, get_or};
 ghost use Rattle.line_read.specs.Types.{longest};
 ghost use Rattle.line_read.specs.Named.{issue_read, opening_read, operation_read, printing_read, question_read, settling_read};
@@ -84,7 +86,7 @@ const KIND_COUNT_PLACE: usize = 5;
 const STATIONS_PLACE: usize = 1;
 
 // The kinds stand from KINDS_PLACE on, one byte each.
-#[derive(Drop)]
+#[derive(Clone, Copy)]
 pub struct Opening {
     pub ok: bool,
     pub stations: u32,
@@ -94,7 +96,7 @@ pub struct Opening {
 }
 
 // Of the vector as many entries are the line's as there are stations; the rest are zeros.
-#[derive(Drop)]
+#[derive(Clone, Copy)]
 pub struct Operation {
     pub ok: bool,
     pub stations: u32,
@@ -105,7 +107,7 @@ pub struct Operation {
     pub vector: [u32; meaning::MOST_STATIONS],
 }
 
-#[derive(Drop)]
+#[derive(Clone, Copy)]
 pub struct Issue {
     pub ok: bool,
     pub object: u32,
@@ -113,13 +115,13 @@ pub struct Issue {
     pub value: u32,
 }
 
-#[derive(Drop)]
+#[derive(Clone, Copy)]
 pub struct Settling {
     pub ok: bool,
     pub limit: u32,
 }
 
-#[derive(Drop)]
+#[derive(Clone, Copy)]
 pub struct Question {
     pub ok: bool,
     pub object: u32,
@@ -242,7 +244,7 @@ pub struct LastVector {
 }
 
 // The two words of a total in two's complement.
-#[derive(Drop)]
+#[derive(Clone, Copy)]
 pub struct Total {
     pub ok: bool,
     pub object: u32,
@@ -262,7 +264,7 @@ pub struct Row {
     pub vector: [u32; meaning::MOST_STATIONS],
 }
 
-#[derive(Drop)]
+#[derive(Clone, Copy)]
 pub struct Closing {
     pub ok: bool,
     pub rows: u32,

@@ -1,4 +1,6 @@
 // Fields and bytes: numbers read from the bytes of a line by the widths of its shape.
+#![tactic(auto)]
+
 ghost use Rattle.std.specs.Prelude.{◌≡◌, ◌+◌, ◌*◌, ◌<◌, ◌≤◌, eqb, drop, length, take};
 ghost use Rattle.line_hex.specs.Numbers.{number_of};
 ghost use Rattle.line_shape.specs.Places.{at_end, byte_at, four_at};
@@ -17,14 +19,14 @@ pub const FOUR: usize = 4;
 const BYTE_VALUES: u32 = 256;
 
 // The byte at a place and the next place, or the end.
-#[derive(Drop)]
+#[derive(Clone, Copy)]
 pub enum NextByte {
     Byte(u8, usize),
     NoByte,
 }
 
 // The number of four bytes at a place and the place behind them, or fewer are left.
-#[derive(Drop)]
+#[derive(Clone, Copy)]
 pub enum NextFour {
     Four(u32, usize),
     NoFour,

@@ -54,8 +54,12 @@ numbered_at (refusal ∷ rest) (suc i) h = or_right (eqb (number_at rest i) refu
 first_numbered : (chain : List Refusal) → first_of chain ≢ 0 → numbered (first_of chain) chain ≡ true
 first_numbered [] d = absurd (d refl)
 first_numbered (refusal ∷ rest) d = cases refusal.given
-    (λ q. rw q (or_left (numbered refusal.number rest) (eq-eqb refusal.number refusal.number refl)))
-    (λ q. rw q (or_right (eqb (first_of rest) refusal.number) (first_numbered rest (rw q at d))))
+    (λ q.
+    let first : first_of (refusal ∷ rest) ≡ refusal.number = rw q in
+    subst (λ (number : ℕ). numbered number (refusal ∷ rest) ≡ true) (sym first) (or_left (numbered refusal.number rest) (eq-eqb refusal.number refusal.number refl)))
+    (λ q.
+    let first : first_of (refusal ∷ rest) ≡ first_of rest = rw q in
+    subst (λ (number : ℕ). numbered number (refusal ∷ rest) ≡ true) (sym first) (or_right (eqb (first_of rest) refusal.number) (first_numbered rest (λ z. d (first ∙ z)))))
 
 -- the chain without its first
 module _ (refusal : Refusal) (rest : List Refusal) (e : distinct (refusal ∷ rest) ≡ true) where

@@ -29,9 +29,9 @@ pub ins_new : (r : Row) (l : List Row) → Memᴰ r (insert_row r l)
 ins_new r [] = Memᴰ.head refl
 ins_new r (y ∷ l) = cases (lower_row r y) (λ q. rw q (Memᴰ.head refl)) (λ q. rw q (Memᴰ.tail (ins_new r l)))
 
-pub ins_kept : (r : Row) {l : List Row} {x : Row} → Memᴰ x l → Memᴰ x (insert_row r l)
-ins_kept r {l} {x} (Memᴰ.head {x = y} {xs = ys} e) = cases (lower_row r y) (λ q. rw q (Memᴰ.tail (Memᴰ.head e))) (λ q. rw q (Memᴰ.head e))
-ins_kept r {l} {x} (Memᴰ.tail {x = y} {xs = ys} m) = cases (lower_row r y) (λ q. rw q (Memᴰ.tail (Memᴰ.tail m))) (λ q. rw q (Memᴰ.tail (ins_kept r m)))
+pub ins_kept : (r : Row) {x : Row} {l : List Row} → Memᴰ x l → Memᴰ x (insert_row r l)
+ins_kept r {x} {l} (Memᴰ.head {x = y} {xs = ys} e) = cases (lower_row r y) (λ q. rw q (Memᴰ.tail (Memᴰ.head e))) (λ q. rw q (Memᴰ.head e))
+ins_kept r {x} {l} (Memᴰ.tail {x = y} {xs = ys} m) = cases (lower_row r y) (λ q. rw q (Memᴰ.tail (Memᴰ.tail m))) (λ q. rw q (Memᴰ.tail (ins_kept r m)))
 
 pub put_back : (b : Bool) (r : Row) (l : List Row) {x : Row} → Memᴰ x (with_row b r l) → ((x ≡ r) × (b ≡ true)) ⊎ Memᴰ x l
 unfolding with_row

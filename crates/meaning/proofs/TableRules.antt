@@ -22,7 +22,7 @@ use Rattle.meaning.specs.Settling.{remove_beside, add_beside, becomes_settled, d
 use Rattle.meaning.specs.Table.{Header, Table, kind_in, low, zeros, opened, in_range, last_rule, sum_of_entries, total_bound, is_negative, total_rule, storable, settled_only, one_row_a_value, is_table}
 use Rattle.meaning.specs.Refusals.{Frame, Local, issued_by, refusal_of_frame, refusal_of_local, refusal_of_settling, operation_allowed, opening_refusals}
 use Rattle.meaning.specs.Calls.{Opening, with_rows, after_arrival, outcome, receive, issue, settle, rows_settled, open_table}
-use Rattle.meaning.specs.History.{Event, receives, issues, settles, Station, after_outcome, after_settling, after, after_all, reached as reachedStation}
+use Rattle.meaning.specs.History.{Event, receives, issues, settles, Station, after_outcome, after_settling, after, after_all, reached as reached_station}
 use Rattle.meaning.proofs.Tests.{cases, clash, and_left, and_right, and_both, and_fails, fails, fails_not, not_holds, or_cases, or_left_fails, or_right_fails, on_cons, any_in, any_no, any_none, those_out, mem_mid, between_out}
 use Rattle.meaning.proofs.Vectors.{at_most_refl, at_most_trans, at_most_at, at_most_raised, raised_at, eq_same}
 use Rattle.meaning.proofs.Ascending.{Asc, Sorted, asc_those, asc_join, asc_left, asc_right, asc_cross, row_trans, row_total, lower_by_rest}
@@ -657,6 +657,6 @@ all_kept [] station is = is
 all_kept (event ∷ events) station is = all_kept events (after event station) (kept event station is)
 
 -- "Table rules": every table that calls can reach from an opening meets them; an accepted opening gives that its header is in range (`opens`).
-pub reached : (header : Header) (events : List Event) → in_range header ≡ true → is_table (reachedStation header events).table ≡ true
-unfolding reachedStation
+pub reached : (header : Header) (events : List Event) → in_range header ≡ true → is_table (reached_station header events).table ≡ true
+unfolding reached_station
 reached header events e = all_kept events (record { table = opened header; accepted = [] }) (opened_is_table header e)

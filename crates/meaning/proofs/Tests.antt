@@ -130,9 +130,9 @@ module _ {A : Type 0} where
   on_cons P h f x (Memᴰ.head e) = subst P (sym e) h
   on_cons P h f x (Memᴰ.tail m) = f x m
 
-  pub any_in : (p : A → Bool) {l : List A} {x : A} → Memᴰ x l → p x ≡ true → any p l ≡ true
-  any_in p {l} {x} (Memᴰ.head {x = y} {xs = xs} e) h = or_left (any p xs) (ap p (sym e) ∙ h)
-  any_in p {l} {x} (Memᴰ.tail {x = y} {xs = xs} m) h = or_right (p y) (any_in p m h)
+  pub any_in : (p : A → Bool) {x : A} {l : List A} → Memᴰ x l → p x ≡ true → any p l ≡ true
+  any_in p {x} {l} (Memᴰ.head {x = y} {xs = xs} e) h = or_left (any p xs) (ap p (sym e) ∙ h)
+  any_in p {x} {l} (Memᴰ.tail {x = y} {xs = xs} m) h = or_right (p y) (any_in p m h)
 
   abbrev pub Some : (A → Bool) → List A → Type 0
   Some p l = (x : A) × Memᴰ x l × (p x ≡ true)
@@ -162,9 +162,9 @@ module _ {A : Type 0} where
       go true q f (Memᴰ.tail m) = let r = f m in (Memᴰ.tail r.0, r.1)
       go false q f m = let r = f m in (Memᴰ.tail r.0, r.1)
 
-  pub those_in : (p : A → Bool) {l : List A} {x : A} → Memᴰ x l → p x ≡ true → Memᴰ x (those p l)
-  those_in p {l} {x} (Memᴰ.head {x = y} {xs = xs} e) h = rw (ap p (sym e) ∙ h) (Memᴰ.head e)
-  those_in p {l} {x} (Memᴰ.tail {x = y} {xs = xs} m) h = cases (p y) (λ q. rw q (Memᴰ.tail (those_in p m h))) (λ q. rw q (those_in p m h))
+  pub those_in : (p : A → Bool) {x : A} {l : List A} → Memᴰ x l → p x ≡ true → Memᴰ x (those p l)
+  those_in p {x} {l} (Memᴰ.head {x = y} {xs = xs} e) h = rw (ap p (sym e) ∙ h) (Memᴰ.head e)
+  those_in p {x} {l} (Memᴰ.tail {x = y} {xs = xs} m) h = cases (p y) (λ q. rw q (Memᴰ.tail (those_in p m h))) (λ q. rw q (those_in p m h))
 
   pub any_cong : (p q : A → Bool) (l : List A) → ((x : A) → Memᴰ x l → p x ≡ q x) → any p l ≡ any q l
   any_cong p q [] f = refl

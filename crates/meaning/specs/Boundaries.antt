@@ -64,11 +64,11 @@ numbered number = record {
 
 -- A table with D = [1,2] whose two counters have these totals.
 abbrev pub counting : ℤ → ℤ → Table
-counting grown upAndDown = record {
+counting grown up_and_down = record {
   header = header_with 2 0 1 (grow_counter ∷ up_down_counter ∷ []);
   clock = two 1 2;
   last = two 0 0 ∷ two 0 2 ∷ [];
-  totals = grown ∷ upAndDown ∷ [];
+  totals = grown ∷ up_and_down ∷ [];
   rows = [];
 }
 

@@ -24,7 +24,7 @@ pub data Paper : Type 0 where
 pub data Result : Type 0 where
   replies : (accepted : ℕ) (reported : List ℕ) → List Row → List Reply → Result
   rows_are : (accepted : ℕ) → List Row → Result
-  low_is : (meetsRules : Bool) → Vector → (first second : Bool) → Result
+  low_is : (meets_rules : Bool) → Vector → (first second : Bool) → Result
 
 -- "N = 2 and value 7 unless said; vectors in brackets." We are station 0, object 1 is a counter.
 abbrev pub pupil : ℕ

@@ -1,5 +1,6 @@
 // What a roll means stands in specs/, the theorems in proofs/; this crate has no functions. For the code of the crates above it has the greatest
 // numbers of specs/, once each.
+#![tactic(auto)]
 
 // The stations of a group, as a number and as a length.
 pub const GREATEST_SIZE: u32 = 16;

@@ -1,4 +1,5 @@
 // Input cut into lines for every program: a byte joins the line that goes on, and a line that ends goes to the session or form that it is of.
+#![tactic(auto)]
 ghost use Rattle.std.specs.Prelude.{false, true, ◌≡◌, length, take};
 ghost use Rattle.words_layout.specs.Layout.{most_words};
 ghost use Rattle.line_decode.specs.Feeding.{fed, held_fed, held_taken, taken};
@@ -13,7 +14,7 @@ use program_play::Played;
 use words_layout::MOST_WORDS;
 
 // What is kept from one byte of input to the next: so many characters of a line, and what is played.
-#[derive(Drop)]
+#[derive(Clone, Copy)]
 pub struct Kept {
     pub have: usize,
     pub part: Played,
@@ -85,7 +86,7 @@ fn feed(
 }
 
 // What comes of a read: what is kept of input that goes on, or nothing was read.
-#[derive(Drop)]
+#[derive(Clone, Copy)]
 enum More {
     Yes(Kept),
     End,

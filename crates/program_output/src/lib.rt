@@ -1,4 +1,5 @@
 // Output lines gathered in a space until they are written: all that the station program says to a line, and all that the second program says to a form.
+#![tactic(auto)]
 ghost use Rattle.std.specs.Prelude.{◌≡◌, ◌+◌, ◌≤◌, length};
 ghost use Rattle.calls.specs.Answers.{longest_answer};
 ghost use Rattle.program_output.specs.Gathering.{HasRoom, joined, line_at, pushed, put};
@@ -20,14 +21,14 @@ const MOST_LINES: usize = 2 + meaning::MOST_STATIONS - 1
     + 1;
 
 // What lines are of: a session, in which each is answered at once, or a saved form, of which so much is known.
-#[derive(Drop)]
+#[derive(Clone, Copy)]
 pub enum Source {
     Session,
     Form(Judged),
 }
 
 // How many characters wait to be written, and whether the output still takes any.
-#[derive(Drop)]
+#[derive(Clone, Copy)]
 pub struct Waiting {
     pub count: usize,
     pub open: bool,

@@ -1,4 +1,5 @@
 // A line played: what it does to the session or form that it is of. Where input has titles, a title ends one and starts the next.
+#![tactic(auto)]
 ghost use Rattle.std.specs.Prelude.{◌&&◌, ◌≡◌, ◌≤◌, length};
 ghost use Rattle.calls.specs.Answers.{longest_answer};
 ghost use Rattle.program_output.specs.Gathering.{HasRoom};
@@ -16,7 +17,7 @@ const FORM: u8 = b'f';
 const NO_LINE: [u8; 0] = [];
 
 // What lines are of, and the output that waits.
-#[derive(Drop)]
+#[derive(Clone, Copy)]
 pub struct Played {
     pub source: Source,
     pub waiting: Waiting,

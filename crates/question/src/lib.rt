@@ -1,4 +1,6 @@
 // Questions to a table that was checked: what is refused, and what is answered from its totals and rows.
+#![tactic(auto)]
+
 ghost use Rattle.std.specs.Prelude.{◌≡◌, [], ◌∷◌, ◌<◌, length};
 ghost use Rattle.meaning.specs.Questions.{by_rows};
 ghost use Rattle.meaning.specs.Calls.{ask};
@@ -12,7 +14,7 @@ use words_layout::{KINDS_AT, OBJECTS_AT, TOTAL_WORDS, TOTALS_AT};
 use words_tags::{RowCount, Value};
 
 // What a question gets: a refusal by its number, 11 with the needed count, or the answer; a list stands in the space, and its length here.
-#[derive(Drop)]
+#[derive(Clone, Copy)]
 pub enum Reply {
     Refused(u32),
     TooLong(RowCount),

@@ -1,4 +1,6 @@
 // The values of an object in a table that was checked: whether one is in, how many are in, and all of them, one after the other.
+#![tactic(auto)]
+
 ghost use Rattle.std.specs.Prelude.{◌≡◌, ◌++◌, ◌<◌, ◌≤◌, length, drop};
 ghost use Rattle.meaning.specs.Questions.{by_rows};
 ghost use Rattle.words_layout.specs.Layout.{rows_at, row_width, size_in, table_of};
@@ -10,7 +12,7 @@ use words_layout::{COUNT_AT, KEY, LOW_AT, SIZE_AT};
 use words_tags::{RowCount, Value};
 
 // The next value of a walk, and how many rows are passed with it.
-#[derive(Drop)]
+#[derive(Clone, Copy)]
 pub struct Found {
     pub value: Value,
     pub passed: RowCount,

@@ -1,4 +1,6 @@
 // The scans that answer questions: which rows show a value that is in.
+#![tactic(auto)]
+
 ghost use Rattle.std.specs.Prelude.{◌≡◌, not, map, ◌+◌, ◌-◌, ◌*◌, ◌<◌, ◌≤◌, length, drop, take};
 ghost use Rattle.words_layout.specs.Words.{pieces};
 ghost use Rattle.words_layout.specs.Layout.{row_of};

@@ -1,4 +1,6 @@
 // What an object's kind allows: its codes, its values, and the questions that fit it.
+#![tactic(auto)]
+
 ghost use Rattle.std.specs.Prelude.{◌≡◌, ltb, length};
 ghost use Rattle.meaning.specs.Operations.{allowed, code_allowed, is_flag, value_allowed};
 ghost use Rattle.meaning.specs.Questions.{fits};

@@ -1,4 +1,5 @@
 // The refusal numbers, once for all crates. 11 is answered with a count, so it is a case of its own in `question`. This crate has no functions.
+#![tactic(auto)]
 
 // Nothing is refused.
 pub const NONE: u32 = 0;

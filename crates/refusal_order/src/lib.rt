@@ -1,5 +1,7 @@
 // The refusals of frames, local operations, questions and openings, in the order in which they are tried. They ask the header, D and L alone, so that frames
 // can be tried without any rows. Refusals 14, 8, 10, 11, and 1 of a line or of a frame's N, are tried where there are lines and rows.
+#![tactic(auto)]
+
 ghost use Rattle.std.specs.Prelude.{◌≡◌, ◌*◌, ◌≤◌, length};
 ghost use Rattle.meaning.specs.Refusals.{asked_refusals, first_of, frame_refusals, issue_refusals, opening_refusals};
 ghost use Rattle.words_layout.specs.Words.{pieces};
@@ -15,7 +17,7 @@ use refusal_number::{
 use words_tags::{RowCount, Station, Value};
 
 // What an opening fixes beside the kinds, which are lent.
-#[derive(Drop)]
+#[derive(Clone, Copy)]
 pub struct Header {
     pub size: u32,
     pub own: Station,
@@ -23,7 +25,7 @@ pub struct Header {
 }
 
 // What a frame carries beside its vector, which is lent.
-#[derive(Drop)]
+#[derive(Clone, Copy)]
 pub struct Sent {
     pub sender: Station,
     pub object: u32,

@@ -1,4 +1,6 @@
 // A frame's entries against D and against its sender's last vector: known already, too early, falling behind; and the own number at its end.
+#![tactic(auto)]
+
 ghost use Rattle.std.specs.Prelude.{◌≡◌, cond, ◌*◌, ◌≤◌, suc, eqb, leb, length, get_or};
 ghost use Rattle.meaning.specs.Order.{at_most, entry_limit, raised};
 ghost use Rattle.refusal_time.specs.Lasts.{last_of};

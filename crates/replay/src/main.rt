@@ -1,4 +1,5 @@
 // Many sessions and many forms in one run, from the files that the arguments name, one after the other: each station begins with an empty space.
+#![tactic(auto)]
 ghost use Rattle.std.specs.Prelude.{true, ◌≡◌, length};
 ghost use Rattle.words_layout.specs.Layout.{most_words};
 ghost use Rattle.program_input.specs.Reading.{Read, Ready};

@@ -1,5 +1,7 @@
 // The settling call on a table that was checked: Low is found, and the rows are passed once.
 // Low, from the vectors of the last frames accepted.
+#![tactic(auto)]
+
 ghost use Rattle.std.specs.Prelude.{◌≡◌, true, ◌+◌, ◌*◌, ◌<◌, ◌≤◌, length, take, drop};
 ghost use Rattle.meaning.specs.Order.{least_of, low_of, others_of};
 ghost use Rattle.words_layout.specs.Words.{padded, pieces};

@@ -1,4 +1,6 @@
 // Settling in lent words: rows are passed once, and each that is due is settled or dropped.
+#![tactic(auto)]
+
 ghost use Rattle.std.specs.Prelude.{◌≡◌, ◌++◌, map, ◌+◌, ◌*◌, ◌≤◌, ◌<◌, length, take, drop};
 ghost use Rattle.meaning.specs.Rows.{settled_row};
 ghost use Rattle.words_layout.specs.Words.{flat, padded, pieces};
@@ -11,7 +13,7 @@ use settling_step::Step;
 use words_tags::RowCount;
 
 // What a pass leaves: so many rows, after so many steps.
-#[derive(Drop)]
+#[derive(Clone, Copy)]
 pub struct Passed {
     pub left: RowCount,
     pub taken: RowCount,

@@ -1,4 +1,6 @@
 // What becomes of a row where rows are passed: whether it is due, and what its step is by what stands beside it.
+#![tactic(auto)]
+
 ghost use Rattle.std.specs.Prelude.{◌≡◌, ◌∷◌, ◌++◌, map, ◌+◌, ◌*◌, ◌≤◌, length, take, drop};
 ghost use Rattle.meaning.specs.Settling.{due};
 ghost use Rattle.words_layout.specs.Words.{pieces};
@@ -11,7 +13,7 @@ ghost use Rattle.meaning.specs.Table.{greatest_size};
 use words_tags::RowCount;
 
 // What stands beside a row: whether it is of the same value, whether it adds, and whether it is settled; all false where nothing stands.
-#[derive(Drop)]
+#[derive(Clone, Copy)]
 pub struct Neighbour {
     pub same: bool,
     pub adds: bool,
@@ -19,7 +21,7 @@ pub struct Neighbour {
 }
 
 // What becomes of a row: it is kept as it is, it becomes settled, it is dropped, or it is dropped and a settled remove behind it as well.
-#[derive(Drop)]
+#[derive(Clone, Copy)]
 pub enum Step {
     Keeps,
     Settles,

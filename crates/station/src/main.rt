@@ -1,4 +1,5 @@
 // The station program: each line of standard input is answered on standard output, as `calls::answer` says.
+#![tactic(auto)]
 use program_output::Source;
 
 fn main() {

@@ -1,5 +1,7 @@
 // A table in lent words, changed where it stands.
 // Totals in two words, two's complement: an amount added or taken away, wrapping as 64 bits do.
+#![tactic(auto)]
+
 ghost use Rattle.std.specs.Prelude.{◌≡◌, ◌+◌, ◌-◌, ◌*◌, ◌%◌, ◌<◌, [], ◌∷◌, ◌++◌, length, pos, ◌+ℤ◌, neg_ℤ, slice_set};
 ghost use Rattle.words_layout.specs.Words.{two_word_limit, word_limit};
 ghost use Rattle.words_layout.specs.Layout.{total_of_words, total_words, capacity_in, objects_in, rewritten, row_of, row_words, table_of, with_clock, with_last, with_totals};
@@ -15,7 +17,7 @@ use words_layout::{CLOCK_AT, COUNT_AT, KEY, TOTAL_WORDS, TOTALS_AT};
 use words_tags::{RowCount, Station};
 
 // The high word and the low word.
-#[derive(Drop)]
+#[derive(Clone, Copy)]
 pub struct Total(pub u32, pub u32);
 
 // The words of a number that is higher by an amount.

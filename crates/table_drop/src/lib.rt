@@ -1,4 +1,6 @@
 // Rows in lent words: which of them go when an operation arrives, and how many are left.
+#![tactic(auto)]
+
 ghost use Rattle.std.specs.Prelude.{◌≡◌, ◌++◌, ◌+◌, ◌*◌, ◌≤◌, length, drop};
 ghost use Rattle.meaning.specs.Arrival.{same_value, taken_by};
 ghost use Rattle.words_layout.specs.Words.{flat, padded};
@@ -10,7 +12,7 @@ use words_layout::{HIGH_AT, LOW_AT, NO_HIGH, OBJECT_AT, UNSETTLED_AT, VECTOR_AT}
 use words_tags::{RowCount, Station, Value};
 
 // What arrives, with the kind of its object; its vector is lent beside it.
-#[derive(Drop)]
+#[derive(Clone, Copy)]
 pub struct Arrival {
     pub kind: u32,
     pub object: u32,

@@ -1,4 +1,6 @@
 // A row put at its ordered place among rows in lent words.
+#![tactic(auto)]
+
 ghost use Rattle.std.specs.Prelude.{◌≡◌, ◌++◌, ◌+◌, ◌*◌, ◌≤◌, length, drop};
 ghost use Rattle.meaning.specs.Rows.{lower_key};
 ghost use Rattle.words_layout.specs.Words.{flat, pieces};

@@ -1,4 +1,6 @@
 // The nine kinds of object and the three codes as numbers, once for all crates, and what a kind says by itself.
+#![tactic(auto)]
+
 ghost use Rattle.std.specs.Prelude.{◌≡◌, get_or};
 ghost use Rattle.meaning.specs.Operations.{is_counter, removes_stand};
 

@@ -1,4 +1,6 @@
 // The ranges of an opening's numbers, and the space that they ask for.
+#![tactic(auto)]
+
 ghost use Rattle.std.specs.Prelude.{◌≡◌, ◌≤◌};
 ghost use Rattle.meaning.specs.Tests.{between, every};
 ghost use Rattle.meaning.specs.Table.{greatest_kind, in_range, most_objects, greatest_size, greatest_capacity};

@@ -1,5 +1,7 @@
 // The one test that every outside call makes: whether lent words hold a table.
 // A table that was checked: what the calls behind the one test of a space stand on. This crate has no functions.
+#![tactic(auto)]
+
 ghost use Rattle.std.specs.Prelude.{◌≡◌, ◌≤◌, leb, length};
 ghost use Rattle.meaning.specs.Tests.{between, every};
 ghost use Rattle.words_layout.specs.Layout.{capacity_in, holds_table, rows_in, size_in, space_for, clock_at};

@@ -1,4 +1,6 @@
 // The table rules of what the clock bounds: totals, and the vectors of the last frames accepted.
+#![tactic(auto)]
+
 ghost use Rattle.std.specs.Prelude.{◌≡◌, ◌*◌, ◌≤◌, ◌<◌, length, get_or};
 ghost use Rattle.meaning.specs.Tests.{every_at};
 ghost use Rattle.meaning.specs.Table.{sum_of_entries, total_bound, greatest_size};

@@ -1,4 +1,6 @@
 // The table rules of rows in lent words: each row by itself, and with the one before it.
+#![tactic(auto)]
+
 ghost use Rattle.std.specs.Prelude.{◌≡◌, ◌+◌, ◌*◌, ◌≤◌, length};
 ghost use Rattle.meaning.specs.Tests.{every};
 ghost use Rattle.meaning.specs.Table.{storable};

@@ -1,4 +1,5 @@
 // The layout of a table in words. This crate has no functions: its definitions are in specs/, its laws in proofs/; here are the places as numbers.
+#![tactic(auto)]
 
 // The first word of a table, "roll" in four bytes.
 pub const TABLE_MARK: u32 = 1919904876;

@@ -1,4 +1,6 @@
 // Words moved where they stand: copied down, moved up, written and cleared. Nothing here knows what the words mean.
+#![tactic(auto)]
+
 ghost use Rattle.std.specs.Prelude.{◌≡◌, ◌++◌, ◌+◌, ◌-◌, ◌≤◌, length, take, drop, replicate};
 ghost use Rattle.std.proofs.Math.Seq.{paste, slice};
 

@@ -1,4 +1,6 @@
 // Tags in lent words: vectors of one entry a station, of any length, compared, lessened and advanced where they stand.
+#![tactic(auto)]
+
 ghost use Rattle.std.specs.Prelude.{◌≡◌, ◌+◌, ◌<◌, min, length, get_or};
 ghost use Rattle.meaning.specs.Order.{at_most, same, before_by_vector, raised, least, entry_limit};
 ghost use Rattle.words_tags.specs.Clocks.{clock_raised};
@@ -7,23 +9,23 @@ ghost use Rattle.words_tags.specs.Relations.{relation_of};
 // "A station's place, an operation's number and a count of rows are three separate quantities."
 
 // A station's place in the group, counted from 0.
-#[derive(Drop)]
+#[derive(Clone, Copy)]
 pub struct Station(pub u32);
 
 // An operation's number: its vector's entry at its sender.
-#[derive(Drop)]
+#[derive(Clone, Copy)]
 pub struct Number(pub u32);
 
 // A count of rows or of steps over them, which is never a place or a number.
-#[derive(Drop)]
+#[derive(Clone, Copy)]
 pub struct RowCount(pub u32);
 
 // An operation's value: an amount, a member of a set or what a register holds; one word today.
-#[derive(Drop)]
+#[derive(Clone, Copy)]
 pub struct Value(pub u32);
 
 // How one vector lies to another: exactly one of the four holds.
-#[derive(Drop)]
+#[derive(Clone, Copy)]
 pub enum Relation {
     Before,
     After,
