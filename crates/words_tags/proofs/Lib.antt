@@ -2,4 +2,3 @@ pub mod Pairs
 pub mod Lessening
 pub mod Relations
 pub mod Places
-pub mod Again

@@ -1,0 +1,12 @@
+use Prim.Native.Nat.{◌-◌}
+use Rattle.words_tags.proofs.Lessening.{start, turn, done}
+use Rattle.words_tags.proofs.lessen.Goals as goal
+
+pub loop-i-init : goal.loop-i-init
+loop-i-init c = search start
+
+pub loop-i-preserved : goal.loop-i-preserved
+loop-i-preserved c = search turn
+
+pub returns : goal.returns
+returns c = search done
