@@ -1,4 +1,3 @@
-use Prim.Native.Nat.{◌-◌}
 use Rattle.line_put.proofs.Laying.{numbering_start, numbering_room, numbering_turn, numbering_done}
 use Rattle.line_put.proofs.put_each.Goals as goal
 

@@ -1,4 +1,3 @@
-use Prim.Native.Nat.{◌-◌}
 use Rattle.line_put.proofs.Laying.{fielding_start, fielding_room, fielding_turn, fielding_done}
 use native.Mathlib.Omega.{arith}
 use Rattle.line_put.proofs.put_fields.Goals as goal
