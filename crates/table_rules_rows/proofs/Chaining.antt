@@ -48,7 +48,7 @@ pub chain_start : (test : List ℕ → List ℕ → Bool) (w count : ℕ) (s : L
 chain_start test w count s h = record { size = omega arith; room = h; whole = refl }
 
 two_ahead : (test : List ℕ → List ℕ → Bool) (w m at : ℕ) (s : List ℕ) → chained test (pieces w (suc (suc m)) (drop at s)) ≡ (test (take w (drop at s)) (take w (drop (at + w) s)) && chained test (pieces w (suc m) (drop (at + w) s)))
-two_ahead test w m at s = rw (drop-drop w at s) refl
+two_ahead test w m at s = ap (λ (behind : List ℕ). test (take w (drop at s)) (take w behind) && chained test (pieces w (suc m) behind)) (drop-drop w at s)
 
 at_most_one : (test : List ℕ → List ℕ → Bool) (w more : ℕ) (s : List ℕ) → more ≤ 1 → chained test (pieces w more s) ≡ true
 at_most_one test w zero s h = refl

@@ -6,7 +6,7 @@ pub returns-then-row-eq0 : goal.returns-then-row-eq0
 returns-then-row-eq0 c = search row_settled
 
 pub returns-then-kind-le-TWO_PHASE_SET : goal.returns-then-kind-le-TWO_PHASE_SET
-returns-then-kind-le-TWO_PHASE_SET c = let k = c.kind_of-kind in let t = c.content-ok in row_settled_only _ _ _ k.result k.ensures t.result t.ensures c.if-content_ok.true c.if-row-eq0.false (omega arith)
+returns-then-kind-le-TWO_PHASE_SET c = let k = c.kind_of-kind in let t = c.content_ok in row_settled_only _ _ _ k.result k.ensures t.result t.ensures c.if-content_ok.true c.if-row-eq0.false (omega arith)
 
 pub returns-then-content_ok : goal.returns-then-content_ok
 returns-then-content_ok c = search row_unsettled

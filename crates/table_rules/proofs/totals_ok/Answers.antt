@@ -1,0 +1,8 @@
+use Rattle.table_rules.proofs.Parts.{totals_wrong, totals_beyond}
+use Rattle.table_rules.proofs.totals_ok.Goals as goal
+
+pub returns-then-each_total_ok : goal.returns-then-each_total_ok
+returns-then-each_total_ok c = search totals_beyond
+
+pub returns : goal.returns
+returns c = search totals_wrong
