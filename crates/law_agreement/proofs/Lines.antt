@@ -28,7 +28,7 @@ use Rattle.line_hex.specs.Putting.{put_at}
 use Rattle.line_shape.specs.Shapes.{written}
 use Rattle.line_put.specs.Writing.{line_bytes}
 use Rattle.line_put.specs.declared.Written.{Written}
-use Rattle.line_read.specs.Types.{operation, question, refused, longest_frame}
+use Rattle.line_read.specs.Types.{question, refused, longest_frame}
 use Rattle.line_read.specs.Named.{issue_read, opening_read, operation_read, question_read, settling_read}
 use Rattle.line_print.specs.Printed.{printed}
 use Rattle.call_question.specs.AnswerBytes.{list_bytes, refusal_bytes, reply_bytes}

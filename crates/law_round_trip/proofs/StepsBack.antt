@@ -26,8 +26,6 @@ use Rattle.words_layout.proofs.Changing.{wide_set}
 use Rattle.table_rules_clock.specs.ClockTests.{last_kept, total_kept}
 use Rattle.line_hex.specs.Hex.{hex_line}
 use Rattle.line_read.specs.Types.{clock, last_vector, total, line_of}
-use Rattle.line_read.specs.declared.Clock.{Clock}
-use Rattle.line_read.specs.declared.Total.{Total}
 use Rattle.line_read.specs.SavedNamed.{clock_read, last_read, total_read}
 use Rattle.line_read.proofs.SavedNamed.{clock_only_spelling, last_only_spelling, total_only_spelling}
 use Rattle.line_read.proofs.Vectors.{clock_vector, last_vector_lem}
