@@ -1,6 +1,6 @@
 -- Characters that come one after the other: each joins the line in its space, and LF ends it, so that it is answered and the next line begins at the front.
 -- What an answer does to what is held from one line to the next is a function of the program that reads.
-use Rattle.std.specs.Prelude.{ℕ, ◌+◌, ◌≡◌, List, [], ◌∷◌, ◌++◌, eqb, length, take}
+use Rattle.std.specs.Prelude.{ℕ, ◌≡◌, List, [], ◌∷◌, ◌++◌, eqb, length, take}
 use Rattle.line_hex.specs.Choice.{pick}
 use Rattle.line_hex.specs.Hex.{lf}
 use Rattle.line_hex.specs.Keeping.{kept, kept_all}

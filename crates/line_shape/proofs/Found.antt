@@ -7,10 +7,11 @@ use native.Mathlib.Omega.{arith}
 use borrow.Author.Tests.{eq-eqb, ne_eqb, le-leb, lt-leb, leb-true, leb-false}
 use lib.Dec.{eqb, leb}
 use lib.ListN.{length, drop, get_or, replicate, take}
+use denote.Ref.{Bor}
 use Rattle.line_hex.specs.Choice.{pick}
 use Rattle.line_hex.specs.Numbers.{number_from, number_of}
 use Rattle.line_shape.specs.Places.{at_end, byte_at, four_at}
-use Rattle.line_shape.specs.Readers.{byte_of, found_fields, place_after, short_widths}
+use Rattle.line_shape.specs.Readers.{byte_of, found_fields, place_after, read_on, short_widths}
 use Rattle.line_shape.specs.Reading.{entries, fields_read, has_shape, padded, starts_with, unread}
 use Rattle.line_shape.specs.Shapes.{length_of, read}
 use Rattle.line_shape.specs.declared.Fields.{Fields}
@@ -18,6 +19,7 @@ use Rattle.line_shape.specs.declared.NextByte.{NextByte}
 use Rattle.line_shape.specs.declared.NextByte.TheVariants.{Byte, NoByte}
 use Rattle.line_shape.specs.declared.NextFour.{NextFour}
 use Rattle.line_shape.specs.declared.NextFour.TheVariants.{Four, NoFour}
+use Rattle.line_shape.specs.declared.Reader.{Reader}
 use Rattle.line_shape.proofs.Places.{after_enough, byte_there}
 use Rattle.line_shape.proofs.Taking.{passed, refused}
 use Rattle.meaning.specs.Table.{greatest_size}
@@ -130,3 +132,14 @@ module _ (kind : ℕ) where
       go : (t : Bool) → leb 7 (length s) ≡ t → Finds s
       go true e = finds_long s (leb-true 7 (length s) e)
       go false e = finds_short s (leb-false 7 (length s) e)
+
+-- the same, as the calls say it: each tells what it found and the reader that came back
+pub short_told : (kind : ℕ) (s : Bor (List ℕ)) (c₁ c₂ c₃ c₄ : Reader) (first second third : NextByte) (number : NextFour) (ended : Bool) (r : Fields)
+    → (first ≡ byte_at s.now 0) × (c₁ ≡ read_on 1 (record { src = s; at = 0 }))
+    → (second ≡ byte_at c₁.src.now c₁.at) × (c₂ ≡ read_on 1 c₁)
+    → (third ≡ byte_at c₂.src.now c₂.at) × (c₃ ≡ read_on 1 c₂)
+    → (number ≡ four_at c₃.src.now c₃.at) × (c₄ ≡ read_on 4 c₃)
+    → ended ≡ at_end c₄.src.now c₄.at
+    → r ≡ found_fields kind first second third number ended
+    → r ≡ fields_read kind short_widths 0 s.now
+short_told kind s c₁ c₂ c₃ c₄ first second third number ended r (e₁, g₁) (e₂, g₂) (e₃, g₃) (e₄, g₄) e₅ e = e ∙ rw (e₅, g₄, e₄, g₃, e₃, g₂, e₂, g₁, e₁) (short_finds kind s.now)

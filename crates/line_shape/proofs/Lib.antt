@@ -4,4 +4,3 @@ pub mod Counting
 pub mod Filling
 pub mod Taking
 pub mod Found
-pub mod Standing

@@ -3,8 +3,8 @@ use native.Mathlib.Omega.{arith}
 use borrow.Author.Rules.{rules}
 use Rattle.arrival.proofs.put_settled.Goals as goal
 
-pub put_row-requires : goal.put_row-requires
-put_row-requires c = ((search rules, search rules), (search rules, search none_long, search (bare_spelt, arith)))
+pub put_row-requires-clause-key_len : goal.put_row-requires-clause-key_len
+put_row-requires-clause-key_len c = (search rules, search none_long, search (bare_spelt, arith))
 
 pub returns : goal.returns
 returns c = search (bare_put, arith)

@@ -1,4 +1,3 @@
-use Prim.Native.Nat.{◌-◌}
 use Rattle.line_shape.proofs.Filling.{gathering_start, gathering_turn, gathering_never, gathering_done}
 use Rattle.line_shape.proofs.entries_at.Goals as goal
 

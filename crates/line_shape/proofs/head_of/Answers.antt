@@ -1,4 +1,3 @@
-use Prim.Native.Nat.{◌-◌}
 use Rattle.line_shape.proofs.Filling.{heading_start, head_width, heading_turn, heading_done}
 use native.Mathlib.Omega.{arith}
 use Rattle.line_shape.proofs.head_of.Goals as goal

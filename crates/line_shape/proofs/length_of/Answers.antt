@@ -1,4 +1,3 @@
-use Prim.Native.Nat.{◌-◌}
 use Rattle.line_shape.proofs.Counting.{summing_start, summing_turn, summing_done}
 use native.Mathlib.Omega.{arith}
 use borrow.Author.Rules.{rules}

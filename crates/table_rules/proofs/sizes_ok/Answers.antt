@@ -1,3 +1,4 @@
+use Rattle.std.proofs.Common.{sym, ◌∙◌}
 use borrow.Author.Tests.{not-true}
 use Rattle.table_rules.proofs.Heading.{sizes_size, sizes_own, sizes_capacity, sizes_objects, sizes_count, passed_test}
 use native.Mathlib.Omega.{arith}
@@ -16,11 +17,4 @@ pub returns-then-not-in_range-2 : goal.returns-then-not-in_range-2
 returns-then-not-in_range-2 c = search (sizes_objects, not-true)
 
 pub returns : goal.returns
-returns c =
-    let objects_test = c.before in
-    let capacity_test = objects_test.before.before in
-    let own_test = capacity_test.before.before in
-    let size_test = own_test.before.before in
-    let a = size_test.before.before.args in
-    let fact = sizes_count a.size a.own.0 a.capacity.0 a.objects a.count.0 (passed_test _ _ size_test.before.in_range.ensures size_test.if1.false) own_test.if2.false (passed_test _ _ capacity_test.before.capacity-ok.ensures capacity_test.if3.false) (passed_test _ _ objects_test.before.in-range2.ensures objects_test.if4.false) in
-    search fact
+returns c = sizes_count _ _ _ _ _ (sym c.in_range.ensures ∙ c.if-not-in_range.false) c.if-size-own.false (sym c.capacity_ok.ensures ∙ c.if-not-capacity_ok.false) (sym c.in_range-2.ensures ∙ c.if-not-in_range-2.false)
