@@ -8,6 +8,7 @@ ghost use Rattle.program_input.specs.Reading.{Read, Ready};
 use program_input::Kept;
 use program_output::{LINE, PENDING, Source};
 use std::env::{Env, FillError};
+use std::fs::File;
 use std::{fs, str};
 use words_layout::MOST_WORDS;
 
@@ -24,6 +25,26 @@ fn arguments(rt: &HostRuntime) -> usize {
     usize::MAX
 }
 
+// The file that an argument names. Why one can't be opened is told on standard error.
+fn open_named(rt: &HostRuntime, argument: usize) -> Option<File> {
+    let mut buffer = [0u8; NAME];
+    let n = rt.arg(argument, &mut buffer).unwrap_or(0);
+    let name = match str::from_utf8(&buffer[..n]) {
+        Ok(name) => name,
+        Err(e) => {
+            let _ = eprintln!(rt; "argument {argument}: {e}");
+            return None;
+        }
+    };
+    match fs::open(rt, name) {
+        Ok(file) => Some(file),
+        Err(e) => {
+            let _ = eprintln!(rt; "{name}: {e}");
+            None
+        }
+    }
+}
+
 // The file that an argument names, in which titles part sessions and forms; of one that can't be read nothing is played.
 fn play_named(
     rt: &HostRuntime,
@@ -38,22 +59,10 @@ fn play_named(
         line.new result.have (result.part.source, space.new)
         × Ready result.have result.part.waiting.count line.new pending.new }
 {
-    let mut buffer = [0u8; NAME];
-    let n = rt.arg(argument, &mut buffer).unwrap_or(0);
-    let name = match str::from_utf8(&buffer[..n]) {
-        Ok(name) => name,
-        Err(e) => {
-            let _ = eprintln!(rt; "argument {argument}: {e}");
-            return from;
-        }
+    let Some(mut file) = open_named(rt, argument) else {
+        return from;
     };
-    match fs::open(rt, name) {
-        Ok(mut file) => program_input::read(&mut file, true, space, line, pending, from),
-        Err(e) => {
-            let _ = eprintln!(rt; "{name}: {e}");
-            from
-        }
-    }
+    program_input::read(&mut file, true, space, line, pending, from)
 }
 
 fn main(rt: HostRuntime) {
