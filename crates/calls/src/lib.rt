@@ -7,7 +7,7 @@ ghost use Rattle.line_decode.specs.Decoding.{type_of};
 ghost use Rattle.line_decode.specs.LineKinds.{kind_of};
 ghost use Rattle.form_save.specs.Saving.{saved_by};
 ghost use Rattle.call_answer.specs.Answering.{frame_room, answered_after};
-ghost use Rattle.calls.specs.Calls.{fallen, issued_by, received_by, replied_by, settled_by};
+ghost use Rattle.calls.specs.Calls.{Fallen, issued_by, received_by, replied_by, settled_by};
 ghost use Rattle.calls.specs.Answers.{answered_by, answer_of, lines_for, longest_answer};
 ghost use Rattle.call_answer.specs.OutputLines.{printed_at};
 
@@ -48,7 +48,7 @@ pub fn issue(space: &mut [u32], line: &[u8], out: &mut [u8]) -> Issued
 
 // "Settling passes 14, 1"; the steps that it reports are the fall in unsettled rows.
 pub fn settle(space: &mut [u32], line: &[u8]) -> Settled
-    ensures { ((result, space.new) ≡ settled_by line.now space.old) × fallen result space.old space.new }
+    ensures { ((result, space.new) ≡ settled_by line.now space.old) × Fallen result space.old space.new }
 {
     if table_rules::is_table(space) {
         return call_checked::settle_line(space, line);

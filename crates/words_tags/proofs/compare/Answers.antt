@@ -1,3 +1,4 @@
+use native.Mathlib.Omega.{arith}
 use Prim.Native.Nat.{◌-◌}
 use lib.Dec.{leb}
 use borrow.Author.Tests.{le-leb, lt-leb}
@@ -5,15 +6,14 @@ use Rattle.meaning.specs.Order.{at_most}
 use Rattle.words_tags.proofs.Pairs.{at_least, geb, at_most_by_pairs, at_least_by_pairs, start, pair_fails, pair_holds, done}
 use Rattle.words_tags.proofs.Relations.{is_before_lem, is_after, is_same, is_concurrent}
 use Rattle.words_tags.proofs.compare.Goals as goal
-use Rattle.words_tags.proofs.compare.Goals.{else-u-i, else-u-i-2, then-u-i, then-u-i-2}
 
 pub loop-i-init : goal.loop-i-init
 loop-i-init c = search (start at_most, start at_least)
 
 pub loop-i-preserved : goal.loop-i-preserved
 loop-i-preserved c = (
-  elim c.if-u-i.branch [ then-u-i w ↦ search (pair_fails at_most leb at_most_by_pairs, lt-leb) | else-u-i w ↦ search (pair_holds at_most leb at_most_by_pairs, le-leb) ],
-  elim c.if-u-i-2.branch [ then-u-i-2 w ↦ search (pair_fails at_least geb at_least_by_pairs, lt-leb) | else-u-i-2 w ↦ search (pair_holds at_least geb at_least_by_pairs, le-leb) ],
+  grind (arith, pair_fails at_most leb at_most_by_pairs, lt-leb, pair_holds at_most leb at_most_by_pairs, le-leb),
+  grind (arith, pair_fails at_least geb at_least_by_pairs, lt-leb, pair_holds at_least geb at_least_by_pairs, le-leb),
 )
 
 pub returns-then-above : goal.returns-then-above

@@ -1,0 +1,8 @@
+use Rattle.call_answer.proofs.Saying.{second_refused, no_opening}
+use Rattle.call_answer.proofs.answer_opening.Goals as goal
+
+pub returns-then-is_opening : goal.returns-then-is_opening
+returns-then-is_opening c = search second_refused
+
+pub returns : goal.returns
+returns c = search no_opening
