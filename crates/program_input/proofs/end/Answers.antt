@@ -10,7 +10,7 @@ pub slice_bounds-respond-end : goal.slice_bounds-respond-end
 slice_bounds-respond-end c = search (ready_within, rules)
 
 pub respond-last-requires : goal.respond-last-requires
-respond-last-requires c = (search rules, search ready_short)
+respond-last-requires c = (search rules, search (ready_short, rules))
 
 pub returns : goal.returns
 returns c = (search (piece_left, ready_within), (search whole_last_line, search rules))

@@ -10,7 +10,7 @@ pub slice_bounds-respond-end : goal.slice_bounds-respond-end
 slice_bounds-respond-end c = search (kept_in, rules)
 
 pub respond-after-requires : goal.respond-after-requires
-respond-after-requires c = (search rules, search kept_short)
+respond-after-requires c = (search rules, search (kept_short, rules))
 
 pub returns : goal.returns
 returns c = (search taken_ended, (search held_ended, search ready_ended))
