@@ -26,7 +26,7 @@ use Rattle.words_layout.proofs.Changing.{Sized, well, sized, wide_set, and_then}
 use Rattle.table_drop.specs.Arriving.{operation_of}
 use Rattle.table_drop.specs.declared.Arrival.{Arrival}
 use Rattle.table_change.specs.Changes.{EntryBelowLimit}
-use Rattle.table_change.proofs.Changing.{all_of, opened}
+use Rattle.table_change.proofs.Changing.{all_of}
 use Rattle.table_rules.specs.Checked.{Checked}
 use Rattle.arrival.specs.Arrives.{Arrives, arrival_from, has_room}
 use Rattle.arrival.proofs.Arriving.{opened_again, spells}

@@ -13,7 +13,7 @@ use lib.ListN.{get_or, set, length, replicate, length-append, length-set, length
 use lib.Seq.{get_or-set_same, get_or-set_other}
 use borrow.Author.Tests.{ltb-true, ltb-false, leb-true, eqb-true, eqb-false, not-false, lt-ltb, le-ltb, le-leb, eq-eqb, ne_eqb}
 use Rattle.meaning.specs.Tests.{any, every, those}
-use Rattle.meaning.specs.Order.{Vector, entry_limit, at_most, raised, same}
+use Rattle.meaning.specs.Order.{Vector, entry_limit, at_most, raised}
 use Rattle.meaning.specs.Operations.{Operation, number_of, is_counter, removes_stand, codes_of, code_allowed, value_allowed, allowed, greatest_amount}
 use Rattle.meaning.specs.Meaning.{on, remove_of}
 use Rattle.meaning.specs.Rows.{Row, unsettled_row, settled_row, key_of, lower_key, lower_row, insert_row}

@@ -1,4 +1,3 @@
-use Prim.Native.Nat.{◌-◌}
 use Rattle.form_write.proofs.Forming.{seeking_start, seeking_done, seeking_found, seeking_past, seeking_other}
 use Rattle.form_write.proofs.counter.Goals as goal
 

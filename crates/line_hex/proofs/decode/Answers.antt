@@ -1,5 +1,4 @@
 use Rattle.line_hex.proofs.Reading.{decoding_start, decoding_turn, decoding_stopped, decoding_full}
-use Prim.Native.Nat.{◌-◌}
 use Rattle.line_hex.proofs.decode.Goals as goal
 
 pub loop-count-init : goal.loop-count-init

@@ -1,4 +1,3 @@
-use Prim.Native.Nat.{◌-◌}
 use borrow.Author.Tests.{not-true, not-false}
 use Rattle.refusal_time.proofs.Entries.{time_start, time_fails, time_holds, time_done}
 use Rattle.refusal_time.proofs.in_time.Goals as goal

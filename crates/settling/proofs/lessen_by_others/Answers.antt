@@ -1,4 +1,3 @@
-use Prim.Native.Nat.{◌-◌}
 use Rattle.settling.proofs.Least.{lessening_start, lessening_skip, lessening_by, lessened_by, part_room, part_long}
 use Rattle.settling.proofs.lessen_by_others.Goals as goal
 

@@ -1,5 +1,4 @@
 use mathlib.Core.Path.{refl}
-use Prim.Native.Nat.{◌-◌}
 use Rattle.table_insert.proofs.Placing.{lower_lt, lower_gt, lower_eq, lower_end}
 use borrow.Author.Rules.{rules}
 use Rattle.table_insert.proofs.lower.Goals as goal

@@ -1,5 +1,4 @@
 use mathlib.Core.Path.{refl}
-use Prim.Native.Nat.{◌-◌}
 use lib.Seq.{paste-zero}
 use Rattle.words_moves.proofs.Moving.{put_turn, copy_done}
 use borrow.Author.Rules.{rules}

@@ -1,4 +1,3 @@
-use Prim.Native.Nat.{◌-◌}
 use borrow.Author.Tests.{not-true, not-false}
 use Rattle.table_ranges.proofs.Heading.{known_start, known_fails, known_holds, known_done}
 use Rattle.table_ranges.proofs.kinds_known.Goals as goal

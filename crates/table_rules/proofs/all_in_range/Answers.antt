@@ -1,4 +1,3 @@
-use Prim.Native.Nat.{◌-◌}
 use borrow.Author.Tests.{not-true, not-false}
 use Rattle.table_rules_rows.proofs.Scanning.{scan_start, word_fails, word_holds, scan_done}
 use Rattle.table_rules.proofs.all_in_range.Goals as goal

@@ -1,6 +1,6 @@
 use Rattle.std.proofs.Common.{sym, ◌∙◌}
 use borrow.Author.Tests.{not-true}
-use Rattle.table_rules.proofs.Heading.{sizes_size, sizes_own, sizes_capacity, sizes_objects, sizes_count, passed_test}
+use Rattle.table_rules.proofs.Heading.{sizes_size, sizes_own, sizes_capacity, sizes_objects, sizes_count}
 use native.Mathlib.Omega.{arith}
 use Rattle.table_rules.proofs.sizes_ok.Goals as goal
 

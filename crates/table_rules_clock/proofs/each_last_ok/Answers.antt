@@ -1,4 +1,3 @@
-use Prim.Native.Nat.{◌-◌}
 use borrow.Author.Tests.{not-true, not-false}
 use Rattle.table_rules_clock.proofs.Totals.{station_fits}
 use Rattle.table_rules_rows.proofs.Scanning.{pass_start, piece_room, end_fits, start_fits, piece_long, piece_fails, piece_holds, pass_done}

@@ -1,5 +1,4 @@
 use Rattle.table_rules_clock.proofs.Totals.{total_fails, total_holds}
-use Prim.Native.Nat.{◌-◌}
 use borrow.Author.Tests.{not-true, not-false}
 use Rattle.table_rules_rows.proofs.Scanning.{pass_start, piece_room, end_fits, start_fits, piece_long, pass_done}
 use native.Mathlib.Omega.{arith}

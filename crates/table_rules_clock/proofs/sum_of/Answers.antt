@@ -1,4 +1,3 @@
-use Prim.Native.Nat.{◌-◌}
 use Rattle.table_rules_clock.proofs.Totals.{sum_start, sum_fits, sum_more, sum_done, sum_bounded}
 use native.Mathlib.Omega.{arith}
 use Rattle.table_rules_clock.proofs.sum_of.Goals as goal

@@ -1,4 +1,3 @@
-use Prim.Native.Nat.{◌-◌}
 use Rattle.table_rules_rows.proofs.Scanning.{scan_start, zero_fails, zero_holds, zero_done}
 use Rattle.table_rules_rows.proofs.all_zero.Goals as goal
 use Rattle.table_rules_rows.proofs.all_zero.Goals.{else-words-i-ne0, then-words-i-ne0}

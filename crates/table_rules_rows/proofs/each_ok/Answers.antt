@@ -1,6 +1,5 @@
 use Rattle.table_rules_rows.proofs.Chaining.{each_done}
 use borrow.Author.Tests.{not-true, not-false}
-use Prim.Native.Nat.{◌-◌}
 use Rattle.table_rules_rows.proofs.Scanning.{pass_start, piece_room, end_fits, start_fits, piece_long, piece_fails, piece_holds}
 use native.Mathlib.Omega.{arith}
 use Rattle.table_rules_rows.proofs.each_ok.Goals as goal

@@ -1,5 +1,4 @@
 use mathlib.Core.Path.{refl}
-use Prim.Native.Nat.{◌-◌}
 use Rattle.words_moves.proofs.Moving.{clear_start, clear_turn, clear_done}
 use native.Mathlib.Omega.{arith}
 use borrow.Author.Rules.{rules}

@@ -1,5 +1,4 @@
 use mathlib.Core.Path.{refl}
-use Prim.Native.Nat.{◌-◌}
 use lib.Seq.{paste-zero}
 use Rattle.words_moves.proofs.Moving.{copy_turn, copy_done}
 use native.Mathlib.Omega.{arith}

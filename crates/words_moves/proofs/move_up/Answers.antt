@@ -1,5 +1,4 @@
 use mathlib.Core.Path.{refl}
-use Prim.Native.Nat.{◌-◌}
 use Rattle.words_moves.proofs.Moving.{up_start, up_turn, up_done}
 use borrow.Author.Rules.{rules}
 use Rattle.words_moves.proofs.move_up.Goals as goal

@@ -1,4 +1,3 @@
-use Prim.Native.Nat.{◌-◌}
 use Rattle.words_tags.proofs.Lessening.{start, turn, done}
 use Rattle.words_tags.proofs.lessen.Goals as goal
 

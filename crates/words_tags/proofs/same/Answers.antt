@@ -1,4 +1,3 @@
-use Prim.Native.Nat.{◌-◌}
 use lib.Dec.{eqb}
 use borrow.Author.Tests.{eq-eqb, ne_eqb}
 use Rattle.meaning.specs.Order.{same}
