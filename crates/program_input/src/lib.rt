@@ -1,5 +1,6 @@
 // Input cut into lines for every program: a byte joins the line that goes on, and a line that ends goes to the session or form that it is of.
 #![tactic(auto)]
+
 ghost use Rattle.std.specs.Prelude.{false, true, ◌≡◌, length, take};
 ghost use Rattle.words_layout.specs.Layout.{most_words};
 ghost use Rattle.line_decode.specs.Feeding.{fed, held_fed, held_taken, taken};
@@ -8,10 +9,14 @@ ghost use Rattle.program_output.specs.Gathering.{HasRoom, pending_room};
 ghost use Rattle.program_play.specs.Lines.{last_ended, responded};
 ghost use Rattle.program_input.specs.Reading.{AfterRead, Read, Ready, WholeLast, WholeResponded};
 
-use libc::STDIN_FILENO;
 use program_output::{LINE, PENDING, Source, Waiting};
 use program_play::Played;
+use std::io;
+use std::io::{Stdin, Stdout};
 use words_layout::MOST_WORDS;
+
+// So many bytes at most are read at once.
+const READ: usize = 65536;
 
 // What is kept from one byte of input to the next: so many characters of a line, and what is played.
 #[derive(Clone, Copy)]
@@ -93,8 +98,8 @@ enum More {
 }
 
 // One read, and its bytes; what is put out for them is written before the next. Once the output takes no more, nothing is read.
-fn some(
-    file: i32,
+fn some<R: io::Read>(
+    file: &mut R,
     titles: bool,
     space: &mut [u32],
     line: &mut [u8],
@@ -108,12 +113,11 @@ fn some(
     if !from.part.waiting.open {
         return More::End;
     }
-    let mut buffer = io::large_buffer();
-    let got = libc::read(file, &mut buffer);
-    if got <= 0 {
+    let mut buffer = [0u8; READ];
+    let n = file.read(&mut buffer).unwrap_or(0);
+    if n == 0 {
         return More::End;
     }
-    let n = io::count(got, &buffer);
     let kept = feed(titles, space, line, pending, from, &buffer[..n]);
     let after = kept.part;
     let source = after.source;
@@ -125,8 +129,8 @@ fn some(
 }
 
 // A whole file, a read at a time.
-pub fn read(
-    file: i32,
+pub fn read<R: io::Read>(
+    file: &mut R,
     titles: bool,
     space: &mut [u32],
     line: &mut [u8],
@@ -165,11 +169,12 @@ pub fn read(
 }
 
 // Before any input: no character of a line, and no output.
-pub fn start(source: Source) -> Kept
+pub fn start(source: Source, to: Stdout) -> Kept
     ensures { (result.have ≡ 0) × ((result.part.source ≡ source) × ((result.part.waiting.count ≡ 0) × (result.part.waiting.open ≡ true))) }
 {
     let waiting = Waiting {
         count: 0,
+        to,
         open: true,
     };
     Kept {
@@ -199,22 +204,29 @@ pub fn end(titles: bool, space: &mut [u32], line: &[u8], pending: &mut [u8], kep
 }
 
 // All of standard input, without titles, from its start.
-fn read_all(source: Source, space: &mut [u32], line: &mut [u8], pending: &mut [u8]) -> Kept
+fn read_all(
+    mut input: Stdin,
+    to: Stdout,
+    source: Source,
+    space: &mut [u32],
+    line: &mut [u8],
+    pending: &mut [u8],
+) -> Kept
     requires { (length space.old ≡ most_words) × ((length line.old ≡ line_room) × (length pending.old ≡ pending_room)) }
     ensures { Read false line.old 0 (source, space.old)
         line.new result.have (result.part.source, space.new)
         × Ready result.have result.part.waiting.count line.new pending.new }
 {
-    let first = start(source);
-    read(STDIN_FILENO, false, space, line, pending, first)
+    let first = start(source, to);
+    read(&mut input, false, space, line, pending, first)
 }
 
 // A whole program on standard input without titles: a session, or a form.
-pub fn run(source: Source) {
+pub fn run(input: Stdin, to: Stdout, source: Source) {
     let mut space = [0u32; MOST_WORDS];
     let mut line = [0u8; LINE];
     let mut pending = [0u8; PENDING];
-    let kept = read_all(source, &mut space, &mut line, &mut pending);
+    let kept = read_all(input, to, source, &mut space, &mut line, &mut pending);
     let last = end(false, &mut space, &line, &mut pending, kept);
     program_output::flush(&pending, last);
 }

@@ -1,12 +1,13 @@
 // Output lines gathered in a space until they are written: all that the station program says to a line, and all that the second program says to a form.
 #![tactic(auto)]
+
 ghost use Rattle.std.specs.Prelude.{◌≡◌, ◌+◌, ◌≤◌, length};
 ghost use Rattle.calls.specs.Answers.{longest_answer};
 ghost use Rattle.program_output.specs.Gathering.{HasRoom, joined, line_at, pushed, put};
 
 use call_answer::Answered;
 use form_judge::Judged;
-use libc::STDOUT_FILENO;
+use std::io::Stdout;
 
 // The characters of the longest line. Of a longer one so many are kept, which get what the whole line gets (law `line_answered` of `line_decode`).
 pub const LINE: usize = line_read::LINE_ROOM;
@@ -27,10 +28,11 @@ pub enum Source {
     Form(Judged),
 }
 
-// How many characters wait to be written, and whether the output still takes any.
+// How many characters wait to be written, where they go, and whether the output still takes any.
 #[derive(Clone, Copy)]
 pub struct Waiting {
     pub count: usize,
+    pub to: Stdout,
     pub open: bool,
 }
 
@@ -40,14 +42,17 @@ pub fn flush(pending: &[u8], waiting: Waiting) -> Waiting
     ensures { result.count ≡ 0 }
 {
     let count = waiting.count;
+    let to = waiting.to;
     if waiting.open {
         return Waiting {
             count: 0,
-            open: io::write_all(STDOUT_FILENO, &pending[0..count]),
+            to,
+            open: to.write_all(&pending[0..count]).is_ok(),
         };
     }
     Waiting {
         count: 0,
+        to,
         open: false,
     }
 }
@@ -73,11 +78,13 @@ pub fn push(pending: &mut [u8], waiting: Waiting, text: &[u8]) -> Waiting
         × HasRoom result.count pending.new }
 {
     let count = waiting.count;
+    let to = waiting.to;
     let open = waiting.open;
     if text.len() <= pending.len() - count {
         let joined = append(pending, count, text);
         return Waiting {
             count: joined,
+            to,
             open,
         };
     }
@@ -85,6 +92,7 @@ pub fn push(pending: &mut [u8], waiting: Waiting, text: &[u8]) -> Waiting
     let alone = append(pending, 0, text);
     Waiting {
         count: alone,
+        to,
         open: written.open,
     }
 }
@@ -120,21 +128,22 @@ pub fn gather(
         × HasRoom result.count pending.new }
 {
     let mut out = [0u8; calls::LONGEST_ANSWER];
+    let to = waiting.to;
     let mut count = waiting.count;
     let mut open = waiting.open;
     let mut k = 0;
     while k < MOST_LINES {
         match output_line(space, source, line, k, &mut out) {
             Answered::Line(n) => {
-                let after = push(pending, Waiting { count, open }, &out[0..n]);
+                let after = push(pending, Waiting { count, to, open }, &out[0..n]);
                 count = after.count;
                 open = after.open;
             }
             Answered::End => {
-                return Waiting { count, open };
+                return Waiting { count, to, open };
             }
         }
         k += 1;
     }
-    Waiting { count, open }
+    Waiting { count, to, open }
 }

@@ -1,5 +1,6 @@
 // A line played: what it does to the session or form that it is of. Where input has titles, a title ends one and starts the next.
 #![tactic(auto)]
+
 ghost use Rattle.std.specs.Prelude.{◌&&◌, ◌≡◌, ◌≤◌, length};
 ghost use Rattle.calls.specs.Answers.{longest_answer};
 ghost use Rattle.program_output.specs.Gathering.{HasRoom};
