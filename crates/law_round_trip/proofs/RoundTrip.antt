@@ -191,7 +191,7 @@ opening_bytes : (header : Header) → AllBytes (opening_line header)
 unfolding opening_line
 opening_bytes header = all_bytes_line_of opening _ _
 
-module _ (t : Table) (is : is_table t ≡ true) (space : List ℕ) (no-load : under_load space ≡ false) (room : space_for t.header.size t.header.capacity ≤ length space) where
+module _ (t : Table) (is : is_table t ≡ true) (space : List ℕ) (no_load : under_load space ≡ false) (room : space_for t.header.size t.header.capacity ≤ length space) where
   abbrev line : List ℕ
   line = hex_line (opening_line t.header)
 
@@ -215,7 +215,7 @@ module _ (t : Table) (is : is_table t ≡ true) (space : List ℕ) (no-load : un
 
   pub opening_taken : loaded_by line space ≡ (loaded.Taken, under 1 (opened t.header) beyond)
   unfolding loaded_by first_taken first_as begun
-  opening_taken = rw (no-load, opening_kind t.header, opened_space) refl
+  opening_taken = rw (no_load, opening_kind t.header, opened_space) refl
 
   -- "Loading what a table wrote gives that table back": whatever the space holds, if no load is under way and it is large enough.
   pub round_trip : Loads (map hex_line (saved_form t)) space (words_of t ++ beyond)

@@ -71,8 +71,8 @@ kind_says type k e = subst (λ (q : LineKind). Says q type) e
     saved true q = q
     saved false q = q
 
-pub kind_known : (line-type type : ℕ) (k : LineKind) → type ≡ line-type → k ≡ kind_of type → k ≡ kind_of line-type
-kind_known line-type type k t e = e ∙ ap kind_of t
+pub kind_known : (line_type type : ℕ) (k : LineKind) → type ≡ line_type → k ≡ kind_of type → k ≡ kind_of line_type
+kind_known line_type type k t e = e ∙ ap kind_of t
 
 -- what a `match` knows of a kind that is none of its arms before
 abbrev place_of : LineKind → ℕ

@@ -229,14 +229,14 @@ pub fn read_printing(s: &[u8]) -> bool
 }
 
 // D.
-#[derive(Drop)]
+#[derive(Clone, Copy)]
 pub struct Clock {
     pub ok: bool,
     pub vector: [u32; meaning::MOST_STATIONS],
 }
 
 // k and L[k].
-#[derive(Drop)]
+#[derive(Clone, Copy)]
 pub struct LastVector {
     pub ok: bool,
     pub station: u32,
@@ -253,7 +253,7 @@ pub struct Total {
 }
 
 // The settled byte is handed on as it stands: 01 or 00 is the loader's to ask.
-#[derive(Drop)]
+#[derive(Clone, Copy)]
 pub struct Row {
     pub ok: bool,
     pub object: u32,

@@ -33,14 +33,14 @@ pub enum NextFour {
 }
 
 // "A reader over a lent line holds the line and its place in it."
-#[derive(Drop)]
+#[derive(Clone, Copy)]
 pub struct Reader<'a> {
     pub src: &'a [u8],
     pub at: usize,
 }
 
 // A line taken apart: its fields, its type first, and the entries behind them, zeros after both; all zeros where its shape is wrong.
-#[derive(Drop)]
+#[derive(Clone, Copy)]
 pub struct Fields {
     pub ok: bool,
     pub head: [u32; MOST_FIELDS],

@@ -11,9 +11,10 @@ use borrow.Author.Tests.{leb-true, le-leb}
 use lib.Dec.{leb}
 use lib.ListN.{get_or, length}
 use Rattle.meaning.specs.Tests.{any, every, every_at, those, all_hold, between}
-
 -- Nothing of the tables of lines is used here: these two have them checked before every law, so that a wrong rule or number is refused at a line
--- of them first.
+-- of them first. `rt tidy` takes them for unused and drops them: put them back then.
+use Rattle.meaning.specs.Papers.{papers}
+use Rattle.meaning.specs.Boundaries.{boundaries}
 
 -- a case on a test, with the equation
 pub cases : {C : Type 0} (b : Bool) → (b ≡ true → C) → (b ≡ false → C) → C
