@@ -197,11 +197,11 @@ module _ (line words out : List ℕ) (k : LineKind) (e : k ≡ kind_of (type_of 
 
     pub answer_lined : (place : ℕ) → place ≡ 0 → length out ≡ longest_answer → (w : Written) (x y : List ℕ) → (w, (x, y)) ≡ answered_after out (answer_of line words) → (r : Answered) → r ≡ line_or_end w → (r, (x, y)) ≡ answered_by line place words out
     unfolding answered_by space_after answered_after
-    answer_lined place zero-th long w x y p r f =
+    answer_lined place zero_th long w x y p r f =
         let bytes = (answer_of line words).0 in
         let line_is : ◌≡◌ {A = Written × List ℕ} (w, y) (line_written out bytes) = ap (λ (q : Written × (List ℕ × List ℕ)). (q.0, q.1.1)) p in
         let space_is : x ≡ (answer_of line words).1 = ap (λ (q : Written × (List ℕ × List ℕ)). q.1.0) p in
         let told : ◌≡◌ {A = Answered × List ℕ} (r, y) (printed_at (bytes ∷ []) 0 out) = ap (λ (a : Answered). (a, y)) f ∙ only_line out bytes (omega (arith, length_hex_line bytes, answer_fits line words)) w y line_is in
-        rw (alone, zero-th) (ap₂ (λ (q : Answered × List ℕ) (l : List ℕ). (q.0, (l, q.1))) told space_is)
+        rw (alone, zero_th) (ap₂ (λ (q : Answered × List ℕ) (l : List ℕ). (q.0, (l, q.1))) told space_is)
 
 -- how a line that was written is told

@@ -574,10 +574,10 @@ opened_is_table header e =
       clock_length = length-replicate header.size 0;
       clock_words = every_replicate (λ (entry : ℕ). ltb entry entry_limit) header.size 0 refl;
       last_length = length-replicate header.size zero_vector;
-      last_rule_lem = λ k k-in. rw (get_or-replicate header.size k zero_vector [] k-in, eq_same zero_vector zero_vector refl, eq-eqb (length zero_vector) header.size (length-replicate header.size 0), at_most_refl zero_vector, eq-eqb (get_or zero_vector k 0) (get_or zero_vector k 0) refl)
+      last_rule_lem = λ k k_in. rw (get_or-replicate header.size k zero_vector [] k_in, eq_same zero_vector zero_vector refl, eq-eqb (length zero_vector) header.size (length-replicate header.size 0), at_most_refl zero_vector, eq-eqb (get_or zero_vector k 0) (get_or zero_vector k 0) refl)
           (alike (eqb k header.own));
       totals_length = length-replicate (length header.kinds) (pos 0);
-      total_rule_lem = λ o o-in. rw (get_or-replicate (length header.kinds) o (pos 0) (pos 0) o-in) (within_any (is_counter (kind_in header o)) (eqb (kind_in header o) 1));
+      total_rule_lem = λ o o_in. rw (get_or-replicate (length header.kinds) o (pos 0) (pos 0) o_in) (within_any (is_counter (kind_in header o)) (eqb (kind_in header o) 1));
       sorted = tt;
       within = omega arith;
       row_facts = λ row m. elim m [ ];
