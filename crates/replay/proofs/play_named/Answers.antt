@@ -4,3 +4,6 @@ use Rattle.replay.proofs.play_named.Goals as goal
 
 pub returns-in_default : goal.returns-in_default
 returns-in_default c = (nothing_read _ _ _ _, search rules)
+
+pub returns : goal.returns
+returns c = c.read.ensures
