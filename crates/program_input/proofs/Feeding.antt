@@ -19,8 +19,7 @@ use Rattle.program_output.specs.declared.Source.{Source}
 use Rattle.program_output.specs.declared.Source.TheVariants as source
 use Rattle.program_output.specs.Gathering.{HasRoom, pending_room, replied, reprinted}
 use Rattle.program_input.specs.declared.Kept.{Kept}
-use Rattle.program_input.specs.declared.More.{More}
-use Rattle.program_input.specs.declared.More.TheVariants as more
+use Rattle.std.specs.Prelude.{Option, Some, None}
 use Rattle.program_play.specs.Lines.{ended, is_title, Part, played, responded, State, state_of, stepped, turned}
 use Rattle.program_input.specs.Reading.{AfterRead, Read, Ready, WholeResponded}
 use Rattle.program_input.proofs.Along.{fed_along}
@@ -156,7 +155,7 @@ module _ (titles : Bool) (line₀ : List ℕ) (have₀ : ℕ) (of₀ : Source) (
   pub reading_start : (count : ℕ) → length words₀ ≡ most_words → Ready have₀ count line₀ pending₀ → Reading titles line₀ have₀ of₀ words₀ pending₀ line₀ words₀ pending₀ have₀ count of₀
   reading_start count w R = record { words_most = w; ready = R; so_far = nothing_read titles line₀ have₀ (of₀, words₀); line_long = refl; words_long = refl; pending_long = refl }
 
-  module _ (line words pending : List ℕ) (have count : ℕ) (of : Source) (G : Reading titles line₀ have₀ of₀ words₀ pending₀ line words pending have count of) (s x p : List ℕ) (r : More) (g : AfterRead titles line pending have (of, words) s p x r) where
+  module _ (line words pending : List ℕ) (have count : ℕ) (of : Source) (G : Reading titles line₀ have₀ of₀ words₀ pending₀ line words pending have count of) (s x p : List ℕ) (r : Option Kept) (g : AfterRead titles line pending have (of, words) s p x r) where
     -- what was read now behind what was read before
     both : (k : Kept) → Read titles line have (of, words) s k.have (k.part.source, x) → Read titles line₀ have₀ (of₀, words₀) s k.have (k.part.source, x)
     both k S = record {
@@ -168,16 +167,16 @@ module _ (titles : Bool) (line₀ : List ℕ) (have₀ : ℕ) (of₀ : Source) (
           ∙ sym (keeping.held_append (stepped titles) line₀ have₀ (of₀, words₀) G.so_far.input S.input);
     }
 
-    pub reading_turn : (k : Kept) → r ≡ more.Yes k → length s ≡ length line → length x ≡ length words → length p ≡ length pending → Reading titles line₀ have₀ of₀ words₀ pending₀ s x p k.have k.part.waiting.count k.part.source
+    pub reading_turn : (k : Kept) → r ≡ Some k → length s ≡ length line → length x ≡ length words → length p ≡ length pending → Reading titles line₀ have₀ of₀ words₀ pending₀ s x p k.have k.part.waiting.count k.part.source
     reading_turn k e l w u =
-        let h : AfterRead titles line pending have (of, words) s p x (more.Yes k) = subst (λ (q : More). AfterRead titles line pending have (of, words) s p x q) e g in
+        let h : AfterRead titles line pending have (of, words) s p x (Some k) = subst (λ (q : Option Kept). AfterRead titles line pending have (of, words) s p x q) e g in
         record { words_most = w ∙ G.words_most; ready = h.0; so_far = both k h.1; line_long = l ∙ G.line_long; words_long = w ∙ G.words_long; pending_long = u ∙ G.pending_long }
 
-    same : r ≡ more.End → (s ≡ line) × ((p ≡ pending) × (x ≡ words))
-    same e = subst (λ (q : More). AfterRead titles line pending have (of, words) s p x q) e g
+    same : r ≡ None → (s ≡ line) × ((p ≡ pending) × (x ≡ words))
+    same e = subst (λ (q : Option Kept). AfterRead titles line pending have (of, words) s p x q) e g
 
-    pub reading_ended : r ≡ more.End → Read titles line₀ have₀ (of₀, words₀) s have (of, x)
+    pub reading_ended : r ≡ None → Read titles line₀ have₀ (of₀, words₀) s have (of, x)
     reading_ended e = rw ((same e).0, (same e).1.1) G.so_far
 
-    pub ready_still : r ≡ more.End → Ready have count s p
+    pub ready_still : r ≡ None → Ready have count s p
     ready_still e = rw ((same e).0, (same e).1.0) G.ready

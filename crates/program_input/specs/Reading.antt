@@ -1,9 +1,8 @@
 -- What holds from one read to the next, and of lines as they came in.
-use Rattle.std.specs.Prelude.{Bool, true, false, List, ◌≡◌, ℕ}
+use Rattle.std.specs.Prelude.{Bool, true, false, List, ◌≡◌, ℕ, Option, Some, None}
 use Rattle.line_decode.specs.Feeding.{fed, Going, held_fed, Keeps, WholeLines}
 use Rattle.program_output.specs.Gathering.{Held, HasRoom}
-use Rattle.program_input.specs.declared.More.{More}
-use Rattle.program_input.specs.declared.More.TheVariants as more
+use Rattle.program_input.specs.declared.Kept.{Kept}
 use Rattle.program_play.specs.Lines.{last_ended, Part, responded, State, stepped}
 
 -- Input may go on: a line's space holds what was kept of a line, and the space of what waits has room for any output line.
@@ -28,7 +27,7 @@ pub record Read (titles : Bool) (line₀ : List ℕ) (have₀ : ℕ) (state₀ :
   pub state_is : state ≡ held_fed (stepped titles) line₀ have₀ state₀ input
 
 -- What comes of a read: input was played, and more may come; else nothing was, and all is as it was.
-abbrev pub AfterRead : Bool → List ℕ → List ℕ → ℕ → State → List ℕ → List ℕ → List ℕ → More → Type 0
-AfterRead titles line₀ pending₀ have₀ state₀ line pending words (more.Yes kept) =
+abbrev pub AfterRead : Bool → List ℕ → List ℕ → ℕ → State → List ℕ → List ℕ → List ℕ → Option Kept → Type 0
+AfterRead titles line₀ pending₀ have₀ state₀ line pending words (Some kept) =
     Ready kept.have kept.part.waiting.count line pending × Read titles line₀ have₀ state₀ line kept.have (kept.part.source, words)
-AfterRead titles line₀ pending₀ have₀ state₀ line pending words more.End = (line ≡ line₀) × ((pending ≡ pending₀) × (words ≡ state₀.1))
+AfterRead titles line₀ pending₀ have₀ state₀ line pending words None = (line ≡ line₀) × ((pending ≡ pending₀) × (words ≡ state₀.1))

@@ -72,32 +72,15 @@ fn feed(
         (result.part.source, (space.new, (result.part.waiting.count, pending.new)))
         × Ready result.have result.part.waiting.count line.new pending.new)) }
 {
-    let first = from.part;
-    let mut have = from.have;
-    let mut source = first.source;
-    let mut waiting = first.waiting;
-    let mut i = 0;
-    while i < chunk.len() {
-        let part = Played { source, waiting };
-        let kept = take(titles, space, line, pending, Kept { have, part }, chunk[i]);
-        let after = kept.part;
-        have = kept.have;
-        source = after.source;
-        waiting = after.waiting;
-        i += 1;
+    let mut kept = from;
+    for b in chunk {
+        kept = take(titles, space, line, pending, kept, *b);
     }
-    let part = Played { source, waiting };
-    Kept { have, part }
+    kept
 }
 
-// What comes of a read: what is kept of input that goes on, or nothing was read.
-#[derive(Clone, Copy)]
-enum More {
-    Yes(Kept),
-    End,
-}
-
-// One read, and its bytes; what is put out for them is written before the next. Once the output takes no more, nothing is read.
+// One read, and its bytes: what is kept of input that goes on, or nothing was read. What is put out for the bytes is written before the next read. Once the
+// output takes no more, nothing is read.
 fn some<R: io::Read>(
     file: &mut R,
     titles: bool,
@@ -105,26 +88,27 @@ fn some<R: io::Read>(
     line: &mut [u8],
     pending: &mut [u8],
     from: Kept,
-) -> More
+) -> Option<Kept>
     requires { (length space.old ≡ most_words) × Ready from.have from.part.waiting.count line.old pending.old }
     ensures { AfterRead titles line.old pending.old from.have (from.part.source, space.old)
         line.new pending.new space.new result }
 {
     if !from.part.waiting.open {
-        return More::End;
+        return None;
     }
     let mut buffer = [0u8; READ];
     let n = file.read(&mut buffer).unwrap_or(0);
     if n == 0 {
-        return More::End;
+        return None;
     }
     let kept = feed(titles, space, line, pending, from, &buffer[..n]);
-    let after = kept.part;
-    let source = after.source;
-    let waiting = program_output::flush(pending, after.waiting);
-    More::Yes(Kept {
+    let waiting = program_output::flush(pending, kept.part.waiting);
+    Some(Kept {
         have: kept.have,
-        part: Played { source, waiting },
+        part: Played {
+            source: kept.part.source,
+            waiting,
+        },
     })
 }
 
@@ -142,30 +126,15 @@ pub fn read<R: io::Read>(
         line.new result.have (result.part.source, space.new)
         × Ready result.have result.part.waiting.count line.new pending.new }
 {
-    let before = from.part;
-    let mut have = from.have;
-    let mut source = before.source;
-    let mut waiting = before.waiting;
+    let mut so_far = from;
     // A loop must end, and nothing says that input does: so many reads no run makes.
-    let mut turns = u64::MAX;
-    while turns > 0 {
-        let part = Played { source, waiting };
-        match some(file, titles, space, line, pending, Kept { have, part }) {
-            More::Yes(kept) => {
-                let after = kept.part;
-                have = kept.have;
-                source = after.source;
-                waiting = after.waiting;
-            }
-            More::End => {
-                let part = Played { source, waiting };
-                return Kept { have, part };
-            }
+    for _ in 0..u64::MAX {
+        match some(file, titles, space, line, pending, so_far) {
+            Some(more) => so_far = more,
+            None => return so_far,
         }
-        turns -= 1;
     }
-    let part = Played { source, waiting };
-    Kept { have, part }
+    so_far
 }
 
 // Before any input: no character of a line, and no output.

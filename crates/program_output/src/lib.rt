@@ -41,19 +41,11 @@ pub fn flush(pending: &[u8], waiting: Waiting) -> Waiting
     requires { waiting.count ≤ length pending.now }
     ensures { result.count ≡ 0 }
 {
-    let count = waiting.count;
     let to = waiting.to;
-    if waiting.open {
-        return Waiting {
-            count: 0,
-            to,
-            open: to.write_all(&pending[0..count]).is_ok(),
-        };
-    }
     Waiting {
         count: 0,
         to,
-        open: false,
+        open: waiting.open && to.write_all(&pending[0..waiting.count]).is_ok(),
     }
 }
 
@@ -62,13 +54,9 @@ fn append(pending: &mut [u8], from: usize, text: &[u8]) -> usize
     requires { from + length text.now ≤ length pending.old }
     ensures { (result, pending.new) ≡ joined pending.old from text.now }
 {
-    let mut at = from;
-    let mut i = 0;
-    while i < text.len() {
-        at = line_hex::keep(pending, at, text[i]);
-        i += 1;
-    }
-    at
+    let end = from + text.len();
+    pending[from..end].copy_from_slice(text);
+    end
 }
 
 // An output line joins those that wait. Where there is no room for it, they are written first.
@@ -77,23 +65,15 @@ pub fn push(pending: &mut [u8], waiting: Waiting, text: &[u8]) -> Waiting
     ensures { ((result.count, pending.new) ≡ pushed text.now (waiting.count, pending.old))
         × HasRoom result.count pending.new }
 {
-    let count = waiting.count;
-    let to = waiting.to;
-    let open = waiting.open;
-    if text.len() <= pending.len() - count {
-        let joined = append(pending, count, text);
-        return Waiting {
-            count: joined,
-            to,
-            open,
-        };
-    }
-    let written = flush(pending, waiting);
-    let alone = append(pending, 0, text);
+    let before = if text.len() <= pending.len() - waiting.count {
+        waiting
+    } else {
+        flush(pending, waiting)
+    };
     Waiting {
-        count: alone,
-        to,
-        open: written.open,
+        count: append(pending, before.count, text),
+        to: before.to,
+        open: before.open,
     }
 }
 
@@ -128,22 +108,12 @@ pub fn gather(
         × HasRoom result.count pending.new }
 {
     let mut out = [0u8; calls::LONGEST_ANSWER];
-    let to = waiting.to;
-    let mut count = waiting.count;
-    let mut open = waiting.open;
-    let mut k = 0;
-    while k < MOST_LINES {
+    let mut waits = waiting;
+    for k in 0..MOST_LINES {
         match output_line(space, source, line, k, &mut out) {
-            Answered::Line(n) => {
-                let after = push(pending, Waiting { count, to, open }, &out[0..n]);
-                count = after.count;
-                open = after.open;
-            }
-            Answered::End => {
-                return Waiting { count, to, open };
-            }
+            Answered::Line(n) => waits = push(pending, waits, &out[0..n]),
+            Answered::End => return waits,
         }
-        k += 1;
     }
-    Waiting { count, to, open }
+    waits
 }

@@ -14,9 +14,6 @@ const DASH: u8 = b'-';
 
 const FORM: u8 = b'f';
 
-// The end of a form has no line of its own.
-const NO_LINE: [u8; 0] = [];
-
 // What lines are of, and the output that waits.
 #[derive(Clone, Copy)]
 pub struct Played {
@@ -28,29 +25,17 @@ pub struct Played {
 fn is_title(titles: bool, line: &[u8]) -> bool
     ensures { result ≡ (titles && is_title line.now) }
 {
-    if !titles {
-        return false;
-    }
-    if line.len() < 2 {
-        return false;
-    }
-    if line[0] != DASH {
-        return false;
-    }
-    line[1] == DASH
+    titles && matches!(line, [DASH, DASH, ..])
 }
 
 // What a title starts.
 fn begin(title: &[u8]) -> Source
     ensures { result ≡ begins title.now }
 {
-    if title.len() < 3 {
-        return Source::Session;
+    match title {
+        [_, _, FORM, ..] => Source::Form(Judged::Open),
+        _ => Source::Session,
     }
-    if title[2] == FORM {
-        return Source::Form(Judged::Open);
-    }
-    Source::Session
 }
 
 // A session or form is at its end, and a form is printed.
@@ -60,13 +45,11 @@ pub fn finish(space: &mut [u32], pending: &mut [u8], part: Played) -> Waiting
         ≡ ended (part.source, (space.old, (part.waiting.count, pending.old))))
         × HasRoom result.count pending.new }
 {
-    let source = part.source;
-    let waiting = part.waiting;
-    match source {
-        Source::Session => waiting,
+    match part.source {
+        Source::Session => part.waiting,
         Source::Form(known) => {
             let whole = form_judge::judge_end(space, known);
-            program_output::gather(space, Source::Form(whole), &NO_LINE, pending, waiting)
+            program_output::gather(space, Source::Form(whole), &[], pending, part.waiting)
         }
     }
 }
@@ -79,13 +62,11 @@ fn turn(space: &mut [u32], title: &[u8], pending: &mut [u8], part: Played) -> Pl
         × HasRoom result.waiting.count pending.new }
 {
     let last = finish(space, pending, part);
-    let after = program_output::push(pending, last, title);
-    let end = space.len();
-    words_moves::clear(space, 0, end);
-    let next = begin(title);
+    let waiting = program_output::push(pending, last, title);
+    space.fill(0);
     Played {
-        source: next,
-        waiting: after,
+        source: begin(title),
+        waiting,
     }
 }
 
@@ -96,23 +77,15 @@ fn play(space: &mut [u32], line: &[u8], pending: &mut [u8], part: Played) -> Pla
         ≡ played line.now (part.source, (space.old, (part.waiting.count, pending.old))))
         × HasRoom result.waiting.count pending.new }
 {
-    let source = part.source;
-    let waiting = part.waiting;
-    match source {
-        Source::Session => {
-            let after = program_output::gather(space, Source::Session, line, pending, waiting);
-            Played {
-                source: Source::Session,
-                waiting: after,
-            }
-        }
-        Source::Form(known) => {
-            let after = form_judge::judge(space, line, known);
-            Played {
-                source: Source::Form(after),
-                waiting,
-            }
-        }
+    match part.source {
+        Source::Session => Played {
+            source: Source::Session,
+            waiting: program_output::gather(space, Source::Session, line, pending, part.waiting),
+        },
+        Source::Form(known) => Played {
+            source: Source::Form(form_judge::judge(space, line, known)),
+            waiting: part.waiting,
+        },
     }
 }
 

@@ -69,24 +69,10 @@ fn main(rt: HostRuntime) {
     let mut space = [0u32; MOST_WORDS];
     let mut line = [0u8; LINE];
     let mut pending = [0u8; PENDING];
-    let first = program_input::start(Source::Session, rt.stdout());
-    let mut have = first.have;
-    let mut part = first.part;
-    let files = arguments(&rt);
-    let mut i = 1;
-    while i < files {
-        let kept = play_named(
-            &rt,
-            i,
-            &mut space,
-            &mut line,
-            &mut pending,
-            Kept { have, part },
-        );
-        have = kept.have;
-        part = kept.part;
-        i += 1;
+    let mut kept = program_input::start(Source::Session, rt.stdout());
+    for i in 1..arguments(&rt) {
+        kept = play_named(&rt, i, &mut space, &mut line, &mut pending, kept);
     }
-    let last = program_input::end(true, &mut space, &line, &mut pending, Kept { have, part });
+    let last = program_input::end(true, &mut space, &line, &mut pending, kept);
     program_output::flush(&pending, last);
 }

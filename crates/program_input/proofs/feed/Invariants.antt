@@ -1,12 +1,6 @@
-use Prim.Native.Nat.{◌-◌}
-use lib.ListN.{length}
 use Rattle.program_input.proofs.Feeding.{Feeding}
 use Rattle.program_input.proofs.feed.Given as goal
 
-abbrev pub invariant-loop-i : goal.invariant-loop-i
-invariant-loop-i l =
-    Feeding l.titles l.initial.line l.initial.have (l.initial.source, (l.initial.space, (l.initial.waiting.count, l.initial.pending))) l.chunk l.line l.have l.source l.space l.waiting.count l.pending l.i
-
-abbrev pub decreases-loop-i : goal.decreases-loop-i
-decreases-loop-i l =
-    length l.chunk - l.i
+abbrev pub invariant-loop-b : goal.invariant-loop-b
+invariant-loop-b l =
+    Feeding l.titles l.initial.line l.initial.kept.have (l.initial.kept.part.source, (l.initial.space, (l.initial.kept.part.waiting.count, l.initial.pending))) l.chunk l.line l.kept.have l.kept.part.source l.space l.kept.part.waiting.count l.pending l.b-index
