@@ -1,59 +1,18 @@
 -- Output lines join those that wait, one after the other.
 use Prim.Native.Nat.{ℕ, zero, suc, ◌+◌, ◌-◌, ◌≤◌, ◌<◌}
 use mathlib.Core.Path.{◌≡◌, refl, sym, ap, ◌∙◌, subst}
-use mathlib.Core.List.{List, [], ◌∷◌, ◌++◌}
+use mathlib.Core.List.{List, [], ◌∷◌}
 use native.Mathlib.Numerals.{add-one}
 use native.Mathlib.Omega.{arith}
 use borrow.Author.Tests.{le-leb, lt-leb}
-use lib.ListN.{length, get_or, take, drop, set, drop_of_length-le, length-set, take-append-drop}
-use lib.Seq.{append_snoc, drop-cons, drop-set-lt, take_at, take-suc-set}
+use lib.ListN.{length, take, drop, drop_of_length-le}
+use lib.Seq.{take_at}
 use Rattle.line_hex.specs.Hex.{hex_line}
-use Rattle.line_hex.specs.Keeping.{kept, kept_all}
-use Rattle.line_hex.proofs.Keeping.{kept_room}
 use Rattle.call_answer.specs.declared.Answered.{Answered}
 use Rattle.call_answer.specs.declared.Answered.TheVariants.{Line, End}
 use Rattle.calls.specs.Answers.{longest_answer}
 use Rattle.call_answer.specs.OutputLines.{printed_at}
 use Rattle.program_output.specs.Gathering.{Gathered, gathered, HasRoom, joined, pushed}
-
--- where there is room every character is kept
-kept_joined : (text space : List ℕ) (have : ℕ) → have + length text ≤ length space → kept_all space have text ≡ joined space have text
-unfolding kept_all joined
-kept_joined [] space have h = let z : have + 0 ≡ have = omega arith in rw z (ap (λ (s : List ℕ). (have, s)) (sym (take-append-drop have space)))
-kept_joined (b ∷ text) space have h =
-    let less : have < length space = omega arith in
-    let end : have + 1 + length text ≡ have + suc (length text) = omega arith in
-    let front : take (have + 1) (set space have b) ≡ take have space ++ (b ∷ []) = ap (λ (n : ℕ). take n (set space have b)) (add-one have) ∙ take-suc-set space have b less in
-    let rest : drop (have + suc (length text)) (set space have b) ≡ drop (have + suc (length text)) space = drop-set-lt (have + suc (length text)) space have b (omega arith) in
-    ap (λ (q : ℕ × List ℕ). kept_all q.1 q.0 text) (sym (kept_room space have b less))
-    ∙ kept_joined text (set space have b) (have + 1) (omega (arith, length-set space have b))
-    ∙ ap (λ (n : ℕ). (n, take (have + 1) (set space have b) ++ (text ++ drop n (set space have b)))) end
-    ∙ ap (λ (s : List ℕ). (have + suc (length text), take (have + 1) (set space have b) ++ (text ++ s))) rest
-    ∙ ap (λ (s : List ℕ). (have + suc (length text), s ++ (text ++ drop (have + suc (length text)) space))) front
-    ∙ ap (λ (s : List ℕ). (have + suc (length text), s)) (append_snoc (take have space) b (text ++ drop (have + suc (length text)) space))
-
--- the characters of the text from `i` on are still to be kept
-pub record Appending (space₀ : List ℕ) (from : ℕ) (text space : List ℕ) (at i : ℕ) : Type 0 where
-  pub left : kept_all space₀ from text ≡ kept_all space at (drop i text)
-  pub place : i ≤ length text
-  pub long : length space ≡ length space₀
-
-pub appending_start : (space : List ℕ) (from : ℕ) (text : List ℕ) → Appending space from text space from 0
-appending_start space from text = record { left = refl; place = omega arith; long = refl }
-
-module _ (space₀ : List ℕ) (from : ℕ) (text space : List ℕ) (at i : ℕ) (A : Appending space₀ from text space at i) where
-  pub appending_turn : (n : ℕ) (s : List ℕ) → i < length text → (n, s) ≡ kept space at (get_or text i 0) → length s ≡ length space → Appending space₀ from text s n (i + 1)
-  unfolding kept_all
-  appending_turn n s h e l =
-      record {
-        left = rw (add-one i) (A.left ∙ ap (kept_all space at) (drop-cons text i 0 h) ∙ ap (λ (q : ℕ × List ℕ). kept_all q.1 q.0 (drop (suc i) text)) (sym e));
-        place = omega arith;
-        long = l ∙ A.long;
-      }
-
-  pub appending_done : length text ≤ i → from + length text ≤ length space₀ → (at, space) ≡ joined space₀ from text
-  unfolding kept_all
-  appending_done h room = sym (A.left ∙ rw (drop_of_length-le text h) refl) ∙ kept_joined text space₀ from room
 
 -- the ways through push
 module _ (pending : List ℕ) (count : ℕ) (text : List ℕ) (n : ℕ) (s : List ℕ) where

@@ -54,9 +54,8 @@ fn append(pending: &mut [u8], from: usize, text: &[u8]) -> usize
     requires { from + length text.now ≤ length pending.old }
     ensures { (result, pending.new) ≡ joined pending.old from text.now }
 {
-    let end = from + text.len();
-    pending[from..end].copy_from_slice(text);
-    end
+    words_moves::put(pending, from, text);
+    from + text.len()
 }
 
 // An output line joins those that wait. Where there is no room for it, they are written first.
@@ -65,15 +64,16 @@ pub fn push(pending: &mut [u8], waiting: Waiting, text: &[u8]) -> Waiting
     ensures { ((result.count, pending.new) ≡ pushed text.now (waiting.count, pending.old))
         × HasRoom result.count pending.new }
 {
-    let before = if text.len() <= pending.len() - waiting.count {
-        waiting
-    } else {
-        flush(pending, waiting)
-    };
+    if text.len() <= pending.len() - waiting.count {
+        return Waiting {
+            count: append(pending, waiting.count, text),
+            ..waiting
+        };
+    }
+    let written = flush(pending, waiting);
     Waiting {
-        count: append(pending, before.count, text),
-        to: before.to,
-        open: before.open,
+        count: append(pending, 0, text),
+        ..written
     }
 }
 

@@ -1,12 +1,13 @@
 -- The ways of a line: what a title ends and starts, and what another line goes to.
-use Prim.Native.Nat.{ℕ, ◌-◌, ◌≤◌, ◌<◌}
+use Prim.Native.Nat.{ℕ, ◌<◌}
 use mathlib.Core.Path.{◌≡◌, refl, sym, ap, ap₂, ◌∙◌}
 use mathlib.Core.Bool.{Bool, true, false, ◌&&◌}
-use mathlib.Core.List.{List, [], ◌∷◌, ◌++◌, append-nil}
+use mathlib.Core.List.{List, [], ◌∷◌}
 use native.Mathlib.Omega.{arith}
-use borrow.Author.Tests.{eq-eqb, ne_eqb}
+use borrow.Author.Tests.{eq-eqb, ne_eqb, eqb-true, eqb-false}
 use lib.Dec.{eqb}
-use lib.ListN.{length, get_or, take, drop, replicate, drop_of_length-le}
+use lib.ListN.{length, get_or, replicate}
+use Rattle.std.specs.List.{starts_with}
 use Rattle.line_decode.specs.Decoding.{bytes_of, type_of}
 use Rattle.form_judge.specs.declared.Judged.{Judged}
 use Rattle.form_judge.specs.declared.Judged.TheVariants as judged
@@ -18,33 +19,23 @@ use Rattle.program_output.specs.Gathering.{Gathered, Held, pushed, put, reprinte
 use Rattle.program_output.proofs.Alike.{replied_alike}
 use Rattle.program_play.specs.Lines.{begins, dash, ended, form_sign, is_title, Part, played, responded, turned}
 
-no_and : (b : Bool) → false ≡ (b && false)
-no_and true = refl
-no_and false = refl
+-- two numbers are the same whichever is named first
+eqb_swapped : (x y : ℕ) → eqb x y ≡ eqb y x
+eqb_swapped x y = by (eqb y x) refl
+  where
+    by : (b : Bool) → eqb y x ≡ b → eqb x y ≡ b
+    by true e = eq-eqb x y (sym (eqb-true y x e))
+    by false e = ne_eqb x y (λ q. eqb-false y x e (sym q))
 
-no_title : (titles title : Bool) → false ≡ title → false ≡ (titles && title)
-no_title true title e = e
-no_title false title e = refl
+and_true : (b : Bool) → (b && true) ≡ b
+and_true true = refl
+and_true false = refl
 
-pub without_titles : (titles : Bool) (line : List ℕ) → titles ≡ false → false ≡ (titles && is_title line)
-without_titles titles line e = rw e refl
-
-short : (line : List ℕ) → length line < 2 → false ≡ is_title line
+pub starts_title : (line : List ℕ) → starts_with eqb line (dash ∷ dash ∷ []) ≡ is_title line
 unfolding is_title
-short [] h = refl
-short (a ∷ []) h = no_and (eqb a dash)
-short (a ∷ b ∷ line) h = absurd (omega arith)
-
-pub short_no_title : (titles : Bool) (line : List ℕ) → length line < 2 → false ≡ (titles && is_title line)
-short_no_title titles line h = no_title titles (is_title line) (short line h)
-
-pub other_no_title : (titles : Bool) (line : List ℕ) → (get_or line 0 0 ≡ dash → ⊥) → false ≡ (titles && is_title line)
-unfolding is_title
-other_no_title titles line h = no_title titles (is_title line) (rw (ne_eqb (get_or line 0 0) dash h) refl)
-
-pub by_second : (titles : Bool) (line : List ℕ) → titles ≡ true → get_or line 0 0 ≡ dash → eqb (get_or line 1 0) dash ≡ (titles && is_title line)
-unfolding is_title
-by_second titles line t h = rw (t, eq-eqb (get_or line 0 0) dash h) refl
+starts_title [] = refl
+starts_title (a ∷ []) = ap (λ (b : Bool). b && false) (eqb_swapped dash a)
+starts_title (a ∷ b ∷ line) = ap₂ (λ (p q : Bool). p && q) (eqb_swapped dash a) (and_true (eqb dash b) ∙ eqb_swapped dash b)
 
 pub begins_short : (title : List ℕ) → length title < 3 → source.Session ≡ begins title
 unfolding begins
@@ -81,14 +72,11 @@ module _ (of : Source) (words : List ℕ) (count : ℕ) (pending : List ℕ) whe
   unfolding played
   form_played line known e after x f = ap (λ (j : Judged × List ℕ). (source.Form j.0, (j.1, (count, pending)))) f ∙ ap (λ (q : Source). played line (q, (words, (count, pending)))) (sym e)
 
-  pub next_begun : (title x : List ℕ) (m : ℕ) (q : List ℕ) → (x, (m, q)) ≡ ended part → (n : ℕ) (s : List ℕ) → (n, s) ≡ pushed title (m, q) → (z : List ℕ) → z ≡ take 0 x ++ replicate (length x - 0) 0 ++ drop (length x) x → (next : Source) → next ≡ begins title → (next, (z, (n, s))) ≡ turned title part
+  pub next_begun : (title x : List ℕ) (m : ℕ) (q : List ℕ) → (x, (m, q)) ≡ ended part → (n : ℕ) (s : List ℕ) → (n, s) ≡ pushed title (m, q) → (z : List ℕ) → z ≡ replicate (length x) 0 → (next : Source) → next ≡ begins title → (next, (z, (n, s))) ≡ turned title part
   unfolding turned
   next_begun title x m q e n s f z g next h =
-      let all : length x - 0 ≡ length x = omega arith in
-      let whole : length x ≤ length x = omega arith in
-      let empty : z ≡ replicate (length x) 0 = g ∙ rw (all, drop_of_length-le x whole) (append-nil (replicate (length x) 0)) in
       ap₂ (λ (p : Source) (w : Held). (p, w)) h
-      (ap₂ (λ (l : List ℕ) (w : Gathered). (l, w)) (empty ∙ ap (λ (w : Held). replicate (length w.0) 0) e) (f ∙ ap (λ (w : Held). pushed title w.1) e))
+      (ap₂ (λ (l : List ℕ) (w : Gathered). (l, w)) (g ∙ ap (λ (w : Held). replicate (length w.0) 0) e) (f ∙ ap (λ (w : Held). pushed title w.1) e))
 
 -- the ways of a line
 module _ (titles : Bool) (line : List ℕ) (title : Bool) (t : title ≡ (titles && is_title line)) (part after : Part) where

@@ -9,8 +9,8 @@ ghost use Rattle.program_play.specs.Lines.{begins, ended, is_title, played, resp
 use form_judge::Judged;
 use program_output::{Source, Waiting};
 
-// A title has these two ahead of it, and behind them this one where it starts a form.
-const DASH: u8 = b'-';
+// A title begins so, and has this behind it where it starts a form.
+const TITLE: [u8; 2] = [b'-', b'-'];
 
 const FORM: u8 = b'f';
 
@@ -25,17 +25,20 @@ pub struct Played {
 fn is_title(titles: bool, line: &[u8]) -> bool
     ensures { result ≡ (titles && is_title line.now) }
 {
-    titles && matches!(line, [DASH, DASH, ..])
+    titles && line.starts_with(&TITLE)
 }
 
 // What a title starts.
 fn begin(title: &[u8]) -> Source
     ensures { result ≡ begins title.now }
 {
-    match title {
-        [_, _, FORM, ..] => Source::Form(Judged::Open),
-        _ => Source::Session,
+    if title.len() < 3 {
+        return Source::Session;
     }
+    if title[2] == FORM {
+        return Source::Form(Judged::Open);
+    }
+    Source::Session
 }
 
 // A session or form is at its end, and a form is printed.

@@ -28,8 +28,8 @@ pub fn move_up(words: &mut [u32], start: usize, end: usize, gap: usize)
     words.copy_within(start..end, start + gap);
 }
 
-// Writes some words at a place.
-pub fn put(words: &mut [u32], at: usize, new: &[u32])
+// Writes some words, or characters, at a place.
+pub fn put<T: Copy>(words: &mut [T], at: usize, new: &[T])
     requires { at + length new.now ≤ length words.old }
     ensures { words.new ≡ paste words.old at new.now (length new.now) }
 {

@@ -9,8 +9,8 @@ loop-k-init c = search (replying_start, rules)
 pub slice_bounds-push-end : goal.slice_bounds-push-end
 slice_bounds-push-end c = search (line_within, rules)
 
-pub push-after-requires : goal.push-after-requires
-push-after-requires c = (search rules, search line_short)
+pub push-waits-requires : goal.push-waits-requires
+push-waits-requires c = (search rules, search line_short)
 
 pub returns-in-End : goal.returns-in-End
 returns-in-End c = (search replying_ended, search rules)
