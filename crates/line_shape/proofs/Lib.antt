@@ -3,4 +3,4 @@ pub mod Spelling
 pub mod Counting
 pub mod Filling
 pub mod Taking
-pub mod Short
+pub mod Found

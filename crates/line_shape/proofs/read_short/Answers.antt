@@ -1,5 +1,5 @@
 use Rattle.std.proofs.Common.{◌∙◌}
-use Rattle.line_shape.proofs.Short.{none_first, none_second, none_third, none_value, not_ended, not_its_type, short_taken}
+use Rattle.line_shape.proofs.Found.{none_first, none_second, none_third, none_value, not_ended, not_its_type, short_taken}
 use Rattle.line_shape.proofs.read_short.Goals as goal
 use Rattle.line_shape.proofs.read_short.Goals.{else-first-kind-via-then-first-kind+else-at_end, else-first-kind-via-else-first-kind}
 
