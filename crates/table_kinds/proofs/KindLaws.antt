@@ -1,7 +1,9 @@
--- An object's kind, and what it says by itself: a law for each way out of the code.
+-- What a number that is no kind's says, and facts of each kind.
+use Rattle.std.specs.Prelude.{◌⊎◌}
+use Rattle.std.proofs.Common.{inl, inr, lit≤}
 use Prim.Native.Nat.{ℕ, ◌≤◌, ◌<◌}
-use mathlib.Core.Path.{◌≡◌, refl, sym, ap, subst, ◌∙◌}
-use mathlib.Core.Bool.{true, ◌||◌}
+use mathlib.Core.Path.{◌≡◌, refl, sym, subst}
+use mathlib.Core.Bool.{true, false, ◌||◌}
 use mathlib.Core.List.{List, [], ◌∷◌}
 use native.Mathlib.Omega.{arith}
 use borrow.Author.Tests.{eqb-true, eqb-false, eq-eqb, ne_eqb}
@@ -10,14 +12,6 @@ use lib.ListN.{length, get_or, get_or-eq_default}
 use Rattle.meaning.specs.Operations.{codes_of, is_counter, removes_stand}
 use Rattle.meaning.proofs.Tests.{cases}
 
--- an object that is declared has its kind, another none
-module _ (kinds : List ℕ) (place object : ℕ) (e : place ≡ object) where
-  pub kind_there : get_or kinds place 0 ≡ get_or kinds object 0
-  kind_there = ap (λ (n : ℕ). get_or kinds n 0) e
-
-  pub kind_nowhere : length kinds ≤ place → 0 ≡ get_or kinds object 0
-  kind_nowhere h = sym (get_or-eq_default kinds 0 h) ∙ kind_there
-
 -- one of two numbers
 pub either_first : (x m n : ℕ) → x ≡ m → true ≡ (eqb x m || eqb x n)
 either_first x m n e = rw (eq-eqb x m e) refl
@@ -25,23 +19,18 @@ either_first x m n e = rw (eq-eqb x m e) refl
 pub either_second : (x m n : ℕ) → (x ≡ m → ⊥) → eqb x n ≡ (eqb x m || eqb x n)
 either_second x m n e = rw (ne_eqb x m e) refl
 
--- kinds 1 and 2
-pub counter_first : (kind : ℕ) → kind ≡ 1 → true ≡ is_counter kind
-unfolding is_counter
-counter_first kind e = either_first kind 1 2 e
+-- no number but a kind's is a counter's, or that of a kind in which removes stand
+module _ (number : ℕ) (none : number < 1 ⊎ 9 < number) where
+  other : (kind : ℕ) → 1 ≤ kind → kind ≤ 9 → eqb number kind ≡ false
+  other kind low high = ne_eqb number kind (λ e. elim none [ inl below ↦ omega (arith, e, below, low) | inr above ↦ omega (arith, e, above, high) ])
 
-pub counter_second : (kind : ℕ) → (kind ≡ 1 → ⊥) → eqb kind 2 ≡ is_counter kind
-unfolding is_counter
-counter_second kind e = either_second kind 1 2 e
+  pub none_counts : false ≡ is_counter number
+  unfolding is_counter
+  none_counts = rw (other 1 (lit≤ tt) (lit≤ tt), other 2 (lit≤ tt) (lit≤ tt)) refl
 
--- kinds 6 and 9
-pub stands_flag : (kind : ℕ) → kind ≡ 6 → true ≡ removes_stand kind
-unfolding removes_stand
-stands_flag kind e = either_first kind 6 9 e
-
-pub stands_set : (kind : ℕ) → (kind ≡ 6 → ⊥) → eqb kind 9 ≡ removes_stand kind
-unfolding removes_stand
-stands_set kind e = either_second kind 6 9 e
+  pub none_stands : false ≡ removes_stand number
+  unfolding removes_stand
+  none_stands = rw (other 6 (lit≤ tt) (lit≤ tt), other 9 (lit≤ tt) (lit≤ tt)) refl
 
 -- a fact of each kind that keeps rows
 at_kind : (P : ℕ → Type 0) (k m : ℕ) → P m → ((k ≡ m → ⊥) → P k) → P k

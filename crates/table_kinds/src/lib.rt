@@ -1,13 +1,17 @@
-// The nine kinds of object and the three codes as numbers, once for all crates, and what a kind says by itself.
+// The nine kinds of object and the three codes, once for all crates: as they stand in words, as types, and what a kind says by itself.
 #![tactic(auto)]
 
 ghost use Rattle.std.specs.Prelude.{◌≡◌, get_or};
 ghost use Rattle.meaning.specs.Operations.{is_counter, removes_stand};
+ghost use Rattle.table_kinds.specs.Kinds.{CodeOf, KindOf, kind_number};
+
+use std::error::Error;
+use std::fmt;
 
 // What stands for the kind of an object that is not declared.
 pub const NO_KIND: u32 = 0;
 
-// The nine kinds.
+// The nine kinds as they stand in words.
 pub const GROW_COUNTER: u32 = 1;
 
 pub const UP_DOWN_COUNTER: u32 = 2;
@@ -26,40 +30,140 @@ pub const ADD_WINS_SET: u32 = 8;
 
 pub const REMOVE_WINS_SET: u32 = 9;
 
-// The codes: add, write, enable or increase; remove, disable or decrease; clear.
+// The nine kinds.
+#[derive(Clone, Copy, Debug, PartialEq, Eq)]
+pub enum Kind {
+    GrowCounter,
+    UpDownCounter,
+    GrowSet,
+    TwoPhaseSet,
+    EnableWinsFlag,
+    DisableWinsFlag,
+    MultiValueRegister,
+    AddWinsSet,
+    RemoveWinsSet,
+}
+
+impl Kind {
+    // Counters' values are amounts, and they keep no rows.
+    #[tactic(auto, unfolding(meaning::specs::Operations::is_counter))]
+    pub fn is_counter(self) -> bool
+        ensures { result ≡ is_counter (kind_number self) }
+    {
+        matches!(self, Kind::GrowCounter | Kind::UpDownCounter)
+    }
+
+    #[tactic(auto, unfolding(meaning::specs::Operations::removes_stand))]
+    pub fn removes_stand(self) -> bool
+        ensures { result ≡ removes_stand (kind_number self) }
+    {
+        matches!(self, Kind::DisableWinsFlag | Kind::RemoveWinsSet)
+    }
+}
+
+// A number that is no kind's.
+#[derive(Clone, Copy, Debug, PartialEq, Eq)]
+pub struct UnknownKind(pub u32);
+
+impl TryFrom<u32> for Kind {
+    type Error = UnknownKind;
+
+    ghost try_from_gives = { KindOf };
+
+    fn try_from(number: u32) -> Result<Self, UnknownKind> {
+        match number {
+            GROW_COUNTER => Ok(Kind::GrowCounter),
+            UP_DOWN_COUNTER => Ok(Kind::UpDownCounter),
+            GROW_SET => Ok(Kind::GrowSet),
+            TWO_PHASE_SET => Ok(Kind::TwoPhaseSet),
+            ENABLE_WINS_FLAG => Ok(Kind::EnableWinsFlag),
+            DISABLE_WINS_FLAG => Ok(Kind::DisableWinsFlag),
+            MULTI_VALUE_REGISTER => Ok(Kind::MultiValueRegister),
+            ADD_WINS_SET => Ok(Kind::AddWinsSet),
+            REMOVE_WINS_SET => Ok(Kind::RemoveWinsSet),
+            _ => Err(UnknownKind(number)),
+        }
+    }
+}
+
+impl fmt::Display for UnknownKind {
+    fn fmt<W: fmt::Write>(&self, f: &mut fmt::Formatter<W>) -> fmt::Result {
+        write!(f, "no kind has the number {}", self.0)
+    }
+}
+
+impl Error for UnknownKind {}
+
+// The codes as they stand in words: add, write, enable or increase; remove, disable or decrease; clear.
 pub const ADDS: u32 = 1;
 
 pub const REMOVES: u32 = 2;
 
 pub const CLEARS: u32 = 3;
 
-// The kind of an object, or none where it is not declared.
+// The three codes.
+#[derive(Clone, Copy, Debug, PartialEq, Eq)]
+pub enum Code {
+    Adds,
+    Removes,
+    Clears,
+}
+
+// A number that is no code's.
+#[derive(Clone, Copy, Debug, PartialEq, Eq)]
+pub struct UnknownCode(pub u32);
+
+impl TryFrom<u32> for Code {
+    type Error = UnknownCode;
+
+    ghost try_from_gives = { CodeOf };
+
+    fn try_from(number: u32) -> Result<Self, UnknownCode> {
+        match number {
+            ADDS => Ok(Code::Adds),
+            REMOVES => Ok(Code::Removes),
+            CLEARS => Ok(Code::Clears),
+            _ => Err(UnknownCode(number)),
+        }
+    }
+}
+
+impl fmt::Display for UnknownCode {
+    fn fmt<W: fmt::Write>(&self, f: &mut fmt::Formatter<W>) -> fmt::Result {
+        write!(f, "no code has the number {}", self.0)
+    }
+}
+
+impl Error for UnknownCode {}
+
+// The number of an object's kind, or none where it is not declared.
 pub fn kind_of(kinds: &[u32], object: u32) -> u32
     ensures { result ≡ get_or kinds.now object 0 }
 {
-    let at = words_tags::wide(object);
-    if at < kinds.len() {
-        return kinds[at];
-    }
-    NO_KIND
+    kinds
+        .get(words_tags::wide(object))
+        .copied()
+        .unwrap_or(NO_KIND)
 }
 
-// Whether objects of this kind are counters, whose values are amounts and which keep no rows.
+// Whether objects of the kind with this number are counters; a number that is no kind's says no.
+#[tactic(auto, using(crate::proofs::KindLaws::none_counts))]
 pub fn is_counter(kind: u32) -> bool
     ensures { result ≡ is_counter kind }
 {
-    if kind == GROW_COUNTER {
-        return true;
+    match Kind::try_from(kind) {
+        Ok(kind) => kind.is_counter(),
+        Err(_) => false,
     }
-    kind == UP_DOWN_COUNTER
 }
 
-// Whether removes stand in objects of this kind.
+// Whether removes stand in objects of the kind with this number.
+#[tactic(auto, using(crate::proofs::KindLaws::none_stands))]
 pub fn removes_stand(kind: u32) -> bool
     ensures { result ≡ removes_stand kind }
 {
-    if kind == DISABLE_WINS_FLAG {
-        return true;
+    match Kind::try_from(kind) {
+        Ok(kind) => kind.removes_stand(),
+        Err(_) => false,
     }
-    kind == REMOVE_WINS_SET
 }
