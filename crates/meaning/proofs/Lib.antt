@@ -24,3 +24,4 @@ pub mod TableRules
 pub mod Order
 pub mod Demand3
 pub mod Agreement
+pub mod Chains

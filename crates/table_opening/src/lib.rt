@@ -11,22 +11,13 @@ ghost use Rattle.table_opening.specs.Opening.{headed};
 use words_layout::{KINDS_AT, TABLE_MARK};
 use words_tags::{RowCount, Station};
 
-// A byte as a word.
-fn word(x: u8) -> u32
-    ensures { result ≡ x }
-{
-    x as u32
-}
-
 // Writes the kind of each object.
 fn put_kinds(s: &mut [u32], kinds: &[u8])
     requires { kinds_at + length kinds.now ≤ length s.old }
     ensures { s.new ≡ paste s.old kinds_at kinds.now (length kinds.now) }
 {
-    let mut i = 0;
-    while i < kinds.len() {
-        s[KINDS_AT + i] = word(kinds[i]);
-        i += 1;
+    for i in 0..kinds.len() {
+        s[KINDS_AT + i] = u32::from(kinds[i]);
     }
 }
 

@@ -14,10 +14,7 @@ use words_tags::{RowCount, Station};
 pub fn in_range(number: u32, least: u32, greatest: u32) -> bool
     ensures { result ≡ between least greatest number }
 {
-    if number < least {
-        return false;
-    }
-    number <= greatest
+    least <= number && number <= greatest
 }
 
 // The greatest capacity of a group of this size.
@@ -38,51 +35,28 @@ pub fn capacity_ok(size: u32, capacity: RowCount) -> bool
 fn is_object_count(objects: usize) -> bool
     ensures { result ≡ between 1 most_objects objects }
 {
-    if objects < 1 {
-        return false;
-    }
-    objects <= meaning::MOST_OBJECTS
-}
-
-// Whether a kind is one of the nine.
-fn is_kind(kind: u8) -> bool
-    ensures { result ≡ between 1 greatest_kind kind }
-{
-    in_range(kind as u32, 1, meaning::GREATEST_KIND)
+    1 <= objects && objects <= meaning::MOST_OBJECTS
 }
 
 // Whether every kind is one of the nine.
 fn kinds_known(kinds: &[u8]) -> bool
     ensures { result ≡ every (between 1 greatest_kind) kinds.now }
 {
-    let mut good = true;
-    let mut i = 0;
-    while i < kinds.len() {
-        if !is_kind(kinds[i]) {
-            good = false;
-        }
-        i += 1;
-    }
-    good
+    words_tags::every(
+        kinds,
+        |kind| in_range(u32::from(*kind), 1, meaning::GREATEST_KIND),
+    )
 }
 
 // Whether the numbers of an opening are in range, whatever they are.
 pub fn header_ok(size: u32, own: Station, capacity: RowCount, kinds: &[u8]) -> bool
     ensures { result ≡ in_range (header_of size own.0 capacity.0 kinds.now) }
 {
-    if !in_range(size, 1, meaning::GREATEST_SIZE) {
-        return false;
-    }
-    if size <= own.0 {
-        return false;
-    }
-    if !is_object_count(kinds.len()) {
-        return false;
-    }
-    if !kinds_known(kinds) {
-        return false;
-    }
-    capacity_ok(size, capacity)
+    in_range(size, 1, meaning::GREATEST_SIZE)
+        && own.0 < size
+        && is_object_count(kinds.len())
+        && kinds_known(kinds)
+        && capacity_ok(size, capacity)
 }
 
 // Where the rows of a group of this size start.

@@ -1,4 +1,5 @@
 pub mod Pieces
+pub mod Chunks
 pub mod RowWords
 pub mod Whole
 pub mod Reading

@@ -1,4 +1,4 @@
 pub mod Pairs
+pub mod Zips
 pub mod Lessening
 pub mod Relations
-pub mod Places

@@ -1,9 +1,11 @@
 -- Exactly one of the four relations holds, and tests at most, one each way, tell which.
 use mathlib.Core.Path.{◌≡◌, refl, sym, ap, ◌∙◌}
-use mathlib.Core.Bool.{Bool, true, false, not, ◌&&◌}
+use mathlib.Core.Bool.{true, false, not, ◌&&◌}
 use Rattle.meaning.specs.Order.{Vector, at_most, same, before_by_vector, concurrent_by_vector}
 use Rattle.meaning.proofs.Tests.{cases, clash, fails, and_left, and_right, not_holds}
 use Rattle.meaning.proofs.Vectors.{before_by, before_not, before_irreflexive, at_most_antisym, at_most_refl, not_before, same_eq, eq_same}
+use denote.Enum.Bare.{sameb}
+use Rattle.words_tags.specs.contracts.Relation.{the_type}
 use Rattle.words_tags.specs.declared.Relation.{Relation}
 use Rattle.words_tags.specs.declared.Relation.TheVariants.{Before, After, Same, Concurrent}
 use Rattle.words_tags.specs.Relations.{says_of, relation_of}
@@ -45,38 +47,30 @@ module _ (u t : Vector) where
       ) refl
 
   -- which it is, by tests at most
-  module _ (below above : Bool) (b : below ≡ at_most u t) (a : above ≡ at_most t u) where
-    pub is_same : below ≡ true → above ≡ true → Same ≡ relation_of u t
-    unfolding says_of
-    is_same p q = no_second_relation Same (eq_same u t (at_most_antisym u t (sym b ∙ p) (sym a ∙ q)))
+  pub is_same : true ≡ at_most u t → true ≡ at_most t u → Same ≡ relation_of u t
+  unfolding says_of
+  is_same p q = no_second_relation Same (eq_same u t (at_most_antisym u t (sym p) (sym q)))
 
-    pub is_before_lem : below ≡ true → above ≡ false → Before ≡ relation_of u t
-    unfolding says_of
-    is_before_lem p q = no_second_relation Before (before_by u t (sym b ∙ p) (sym a ∙ q))
+  pub is_before : true ≡ at_most u t → false ≡ at_most t u → Before ≡ relation_of u t
+  unfolding says_of
+  is_before p q = no_second_relation Before (before_by u t (sym p) (sym q))
 
-    pub is_after : below ≡ false → above ≡ true → After ≡ relation_of u t
-    unfolding says_of
-    is_after p q = no_second_relation After (before_by t u (sym a ∙ q) (sym b ∙ p))
+  pub is_after : false ≡ at_most u t → true ≡ at_most t u → After ≡ relation_of u t
+  unfolding says_of
+  is_after p q = no_second_relation After (before_by t u (sym q) (sym p))
 
-    pub is_concurrent : below ≡ false → above ≡ false → Concurrent ≡ relation_of u t
-    unfolding says_of concurrent_by_vector
-    is_concurrent p q =
-        no_second_relation Concurrent
-        (rw (not_before u t (sym b ∙ p), not_before t u (sym a ∙ q), fails (same u t) (λ s. clash (at_most u t) (rw (same_eq u t s) (at_most_refl t)) (sym b ∙ p))) refl)
+  pub is_concurrent : false ≡ at_most u t → false ≡ at_most t u → Concurrent ≡ relation_of u t
+  unfolding says_of concurrent_by_vector
+  is_concurrent p q =
+      no_second_relation Concurrent
+      (rw (not_before u t (sym p), not_before t u (sym q), fails (same u t) (λ s. clash (at_most u t) (rw (same_eq u t s) (at_most_refl t)) (sym p))) refl)
 
--- whether a relation is the first
-abbrev pub is_before : Relation → Bool
-is_before Before = true
-is_before After = false
-is_before Same = false
-is_before Concurrent = false
-
--- before, read off the relation and the case that it was found to be
-pub before_of : (u t : Vector) (r case : Relation) → r ≡ relation_of u t → r ≡ case → is_before case ≡ before_by_vector u t
+-- whether a relation is the first, as a comparison of enums says it
+pub tells_before : (u t : Vector) (r : Relation) → r ≡ relation_of u t → sameb the_type r Before ≡ before_by_vector u t
 unfolding says_of relation_of
-before_of u t r case e f = ap is_before (sym f ∙ e) ∙ told
+tells_before u t r e = ap (λ s. sameb the_type s Before) e ∙ told
   where
-    told : is_before (relation_of u t) ≡ before_by_vector u t
+    told : sameb the_type (relation_of u t) Before ≡ before_by_vector u t
     told =
         cases (before_by_vector u t) (λ p. rw p refl)
         (λ p. rw p (cases (before_by_vector t u) (λ q. rw q refl)

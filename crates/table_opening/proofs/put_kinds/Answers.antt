@@ -1,14 +1,6 @@
-use mathlib.Core.Path.{refl}
-use lib.Seq.{paste-zero}
-use Rattle.words_moves.proofs.Moving.{put_turn, copy_done}
-use borrow.Author.Rules.{rules}
+use Rattle.words_moves.proofs.Moving.{put_turn}
+use native.Mathlib.Omega.{arith}
 use Rattle.table_opening.proofs.put_kinds.Goals as goal
 
-pub loop-i-init : goal.loop-i-init
-loop-i-init c = (search rules, search paste-zero, refl)
-
 pub loop-i-preserved : goal.loop-i-preserved
-loop-i-preserved c = (search rules, search put_turn, search rules)
-
-pub returns : goal.returns
-returns c = search copy_done
+loop-i-preserved c = put_turn _ _ _ _ _ _ c.requires (omega arith) c.from.ensures c.loop-i.invariant

@@ -1,3 +1,4 @@
+use Rattle.std.proofs.Common.{arith}
 use Rattle.words_tags.proofs.Lessening.{start, turn, done}
 use Rattle.words_tags.proofs.lessen.Goals as goal
 
@@ -5,7 +6,7 @@ pub loop-i-init : goal.loop-i-init
 loop-i-init c = search start
 
 pub loop-i-preserved : goal.loop-i-preserved
-loop-i-preserved c = search turn
+loop-i-preserved c = turn _ _ _ _ c.loop-i.invariant (omega arith) _ cc
 
 pub returns : goal.returns
-returns c = search done
+returns c = done _ _ _ _ c.loop-i.invariant (omega arith)
