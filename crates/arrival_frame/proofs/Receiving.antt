@@ -9,10 +9,14 @@ use lib.Dec.{eqb, ltb}
 use lib.ListN.{length, get_or, take, drop, set, length-set, length-map}
 use Rattle.meaning.specs.Tests.{every}
 use Rattle.meaning.specs.Order.{Vector, entry_limit}
-use Rattle.meaning.specs.Operations.{Operation, number_of}
+use Rattle.meaning.specs.Operations.{Operation}
+use Rattle.meaning.specs.Operations as meant
+use Rattle.refusal_number.specs.declared.Refusal as given
+use Rattle.refusal_number.specs.Numbers.{number_of}
+use Rattle.refusal_number.proofs.Numbers.{number_above}
 use Rattle.meaning.specs.Arrival.{rows_after}
 use Rattle.meaning.specs.Table.{Header, Table, kind_in}
-use Rattle.meaning.specs.Refusals.{first_of, Frame, frame_refusals, room_for, arrival_refusals, refusal_of_frame}
+use Rattle.meaning.specs.Refusals.{Refusal, first_of, Frame, frame_refusals, room_for, arrival_refusals, refusal_of_frame}
 use Rattle.meaning.specs.Calls.{outcome, receive, after_arrival}
 use Rattle.meaning.proofs.Tests.{cases}
 use Rattle.meaning.proofs.Acceptance.{FrameAccepted, frame_accepted, next_number}
@@ -32,16 +36,17 @@ use Rattle.arrival.specs.Arrives.{Arrives, arrival_from, has_room}
 use Rattle.arrival.proofs.Arriving.{opened_again, spells}
 use Rattle.arrival.proofs.Kept.{table_back, table_held}
 use Rattle.arrival.proofs.Chain.{numbered, chain_then}
-use Rattle.refusal_order.specs.Fields.{frame_from}
+use Rattle.refusal_order.specs.Fields.{frame_from, header_from}
+use Rattle.refusal_order.specs.declared.Header as opened
 use Rattle.refusal_order.specs.declared.Sent.{Sent}
 use Rattle.arrival_frame.specs.Receiving.{outcome_in, received_by}
 
 -- what asks the header, D and L alone, from the words that are lent
-pub early_is : (s : List ℕ) (n m : ℕ) (f : Sent) (v : Vector) (r : ℕ) → n ≡ size_in s → m ≡ objects_in s →
-    r ≡ first_of (frame_refusals (record { size = size_in s; own = own_in s; capacity = capacity_in s; kinds = take (7 + m - 7) (drop 7 s) }) (take (clock_at + n - clock_at) (drop clock_at s)) (pieces (size_in s) (size_in s) (take (length s - (clock_at + n)) (drop (clock_at + n) s))) (frame_from f v)) →
+pub early_is : (s : List ℕ) (n m : ℕ) (h : opened.Header) (f : Sent) (v : Vector) (r : ℕ) → n ≡ size_in s → m ≡ objects_in s → h.size ≡ size_in s → h.own.0 ≡ own_in s → h.capacity.0 ≡ capacity_in s →
+    r ≡ first_of (frame_refusals (header_from h (take (7 + m - 7) (drop 7 s))) (take (clock_at + n - clock_at) (drop clock_at s)) (pieces h.size h.size (take (length s - (clock_at + n)) (drop (clock_at + n) s))) (frame_from f v)) →
     r ≡ first_of (frame_refusals (table_of s).header (table_of s).clock (table_of s).last (frame_from f v))
 unfolding table_of
-early_is s n m f v r en em e = e ∙ rw (kinds_part s m em, clock_part s n en, all_of s (clock_at + n), en) refl
+early_is s n m h f v r en em size own capacity e = e ∙ rw (size, own, capacity, kinds_part s m em, clock_part s n en, all_of s (clock_at + n), en) refl
 
 -- what arrives of a frame
 abbrev pub arrival_in : Table → Sent → Arrival
@@ -57,26 +62,29 @@ unfolding numbered frame_refusals
 numbered_chain header clock last frame = refl
 
 -- 1 to 7, then 8
-module _ (table : Table) (f : Sent) (v : Vector) (r : ℕ) (e : r ≡ first_of (frame_refusals table.header table.clock table.last (frame_from f v))) where
+module _ (table : Table) (f : Sent) (v : Vector) where
+  abbrev early : List Refusal
+  early = frame_refusals table.header table.clock table.last (frame_from f v)
+
   abbrev number : ℕ
   number = refusal_of_frame table (frame_from f v)
 
-  number_is : number ≡ cond (eqb r 0) (cond (not (room_for table (frame_from f v).operation)) 8 0) r
+  number_is : number ≡ cond (eqb (first_of early) 0) (cond (not (room_for table (frame_from f v).operation)) 8 0) (first_of early)
   unfolding refusal_of_frame arrival_refusals
-  number_is = chain_then (frame_refusals table.header table.clock table.last (frame_from f v)) (not (room_for table (frame_from f v).operation)) (numbered_chain table.header table.clock table.last (frame_from f v)) ∙ rw (sym e) refl
+  number_is = chain_then early (not (room_for table (frame_from f v).operation)) (numbered_chain table.header table.clock table.last (frame_from f v))
 
-  pub number_early : (r ≡ 0 → ⊥) → r ≡ number
-  number_early d = sym (number_is ∙ rw (ne_eqb r 0 d) refl)
+  pub number_early : (refusal : given.Refusal) → number_of refusal ≡ first_of early → number_of refusal ≡ number
+  number_early refusal e = sym (number_is ∙ rw (sym e, ne_eqb (number_of refusal) 0 (number_above refusal)) refl)
 
-  module _ (z : r ≡ 0) (a : Arrival) (ea : a ≡ arrival_in table f) (b : Bool) (g : b ≡ has_room a v table) where
+  module _ (e : 0 ≡ first_of early) (a : Arrival) (ea : a ≡ arrival_in table f) (b : Bool) (g : b ≡ has_room a v table) where
     room_is : room_for table (frame_from f v).operation ≡ b
     room_is = sym (g ∙ ap (λ (x : Arrival). has_room x v table) ea ∙ room_same table f v)
 
     pub number_none : b ≡ true → 0 ≡ number
-    number_none t = sym (number_is ∙ rw (eq-eqb r 0 z, room_is ∙ t) refl)
+    number_none t = sym (number_is ∙ rw (sym e, room_is ∙ t) refl)
 
     pub number_full : b ≡ false → 8 ≡ number
-    number_full t = sym (number_is ∙ rw (eq-eqb r 0 z, room_is ∙ t) refl)
+    number_full t = sym (number_is ∙ rw (sym e, room_is ∙ t) refl)
 
 -- the last vector written, the shape stays
 well_last : (t : Table) (k : ℕ) (v : Vector) → Well t → length v ≡ t.header.size → Well (with_last t (set t.last k v))
@@ -106,7 +114,7 @@ module _ (s : List ℕ) (n : ℕ) (f : Sent) (v : Vector) (C : Checked s) (long 
   sender_below = let h = A.sender_in in let q = size_is in omega arith
 
   rises : EntryBelowLimit table f.sender.0
-  unfolding number_of
+  unfolding meant.number_of
   rises =
       let next = next_number table frame (facts table C.by_rules).clock_length A in
       let word = ltb-true (get_or v f.sender.0 0) entry_limit (every_place (λ (entry : ℕ). ltb entry entry_limit) v A.words f.sender.0 (let h = A.sender_in in let l = A.entries in omega arith)) in
@@ -158,14 +166,14 @@ module _ (s : List ℕ) (n : ℕ) (f : Sent) (v : Vector) (C : Checked s) (long 
           ∙ ap (λ (m : ℕ). rewritten s (after_arrival table frame.operation (set table.last m v))) q
 
 -- the number and the words
-module _ (s : List ℕ) (frame : Frame) (r : ℕ) (e : r ≡ refusal_of_frame (table_of s) frame) where
-  pub receive_refused : (r ≡ 0 → ⊥) → (r, s) ≡ received_by s frame
+module _ (s : List ℕ) (frame : Frame) where
+  pub receive_refused : (refusal : given.Refusal) → number_of refusal ≡ refusal_of_frame (table_of s) frame → (number_of refusal, s) ≡ received_by s frame
   unfolding received_by receive outcome outcome_in
-  receive_refused d = rw (sym e, ne_eqb r 0 d) refl
+  receive_refused refusal e = rw (sym e, ne_eqb (number_of refusal) 0 (number_above refusal)) refl
 
-  pub receive_taken : r ≡ 0 → (s₁ : List ℕ) → s₁ ≡ rewritten s (after_arrival (table_of s) frame.operation (set (table_of s).last frame.operation.sender frame.operation.vector)) → (0, s₁) ≡ received_by s frame
+  pub receive_taken : 0 ≡ refusal_of_frame (table_of s) frame → (s₁ : List ℕ) → s₁ ≡ rewritten s (after_arrival (table_of s) frame.operation (set (table_of s).last frame.operation.sender frame.operation.vector)) → (0, s₁) ≡ received_by s frame
   unfolding received_by receive outcome outcome_in
-  receive_taken z s₁ f = rw (sym e, eq-eqb r 0 z, f) refl
+  receive_taken e s₁ f = rw (sym e, f) refl
 
 -- the space holds a table afterwards, whatever the number
 pub receive_keeps : (s : List ℕ) (frame : Frame) → Checked s → holds_table (received_by s frame).1 ≡ true

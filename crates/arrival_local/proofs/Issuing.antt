@@ -32,14 +32,18 @@ use Rattle.table_rules.specs.Checked.{Checked}
 use Rattle.arrival.specs.Arrives.{Arrives, arrival_from, has_room}
 use Rattle.arrival.proofs.Kept.{table_back, table_held}
 use Rattle.arrival.proofs.Chain.{numbered, chain_then}
-use Rattle.refusal_order.specs.Fields.{local_from}
+use Rattle.refusal_order.specs.Fields.{header_from, local_from}
+use Rattle.refusal_order.specs.declared.Header as opened_as
+use Rattle.refusal_number.specs.declared.Refusal as given
+use Rattle.refusal_number.specs.Numbers.{number_of}
+use Rattle.refusal_number.proofs.Numbers.{number_above}
 
 -- what asks the header and D alone, from the words that are lent
-pub early_is : (s : List ℕ) (n m object code value r : ℕ) → n ≡ size_in s → m ≡ objects_in s →
-    r ≡ first_of (issue_refusals (record { size = size_in s; own = own_in s; capacity = capacity_in s; kinds = take (7 + m - 7) (drop 7 s) }) (take (clock_at + n - clock_at) (drop clock_at s)) (local_from object code value)) →
+pub early_is : (s : List ℕ) (n m : ℕ) (h : opened_as.Header) (object code value r : ℕ) → n ≡ size_in s → m ≡ objects_in s → h.size ≡ size_in s → h.own.0 ≡ own_in s → h.capacity.0 ≡ capacity_in s →
+    r ≡ first_of (issue_refusals (header_from h (take (7 + m - 7) (drop 7 s))) (take (clock_at + n - clock_at) (drop clock_at s)) (local_from object code value)) →
     r ≡ first_of (issue_refusals (table_of s).header (table_of s).clock (local_from object code value))
 unfolding table_of
-early_is s n m object code value r en em e = e ∙ rw (kinds_part s m em, clock_part s n en) refl
+early_is s n m h object code value r en em size own capacity e = e ∙ rw (size, own, capacity, kinds_part s m em, clock_part s n en) refl
 
 numbered_chain : (header : Header) (clock : Vector) (local : Local) → every numbered (issue_refusals header clock local) ≡ true
 unfolding numbered issue_refusals
@@ -67,8 +71,8 @@ module _ (s : List ℕ) (C : Checked s) where
   unfolding table_of
   own_rises d = let w = own_word in omega arith
 
-  pub rises_early : (object code value r : ℕ) → r ≡ first_of (issue_refusals (table_of s).header (table_of s).clock (local_from object code value)) → r ≡ 0 → EntryBelowLimit (table_of s) (own_in s)
-  rises_early object code value r e z = own_rises (not_last (table_of s).header (table_of s).clock (local_from object code value) (sym e ∙ z))
+  pub rises_early : (object code value : ℕ) → 0 ≡ first_of (issue_refusals (table_of s).header (table_of s).clock (local_from object code value)) → EntryBelowLimit (table_of s) (own_in s)
+  rises_early object code value e = own_rises (not_last (table_of s).header (table_of s).clock (local_from object code value) (sym e))
 
   pub rises_accepted : (object code value : ℕ) → refusal_of_local (table_of s) (local_from object code value) ≡ 0 → EntryBelowLimit (table_of s) (own_in s)
   rises_accepted object code value ok = own_rises (local_accepted (table_of s) (local_from object code value) ok).not_last
@@ -143,10 +147,10 @@ module _ (s : List ℕ) (C : Checked s) (n : ℕ) (en : n ≡ size_in s) (next :
     room_same = rw (issued_is, ea) refl
 
     -- 3, 4, 9, then 8
-    module _ (r : ℕ) (f : r ≡ first_of (issue_refusals table.header table.clock local)) (z : r ≡ 0) (b : Bool) (g : b ≡ has_room a (take (n - 0) next) table) where
+    module _ (f : 0 ≡ first_of (issue_refusals table.header table.clock local)) (b : Bool) (g : b ≡ has_room a (take (n - 0) next) table) where
       number_is : refusal_of_local table local ≡ cond (not b) 8 0
       unfolding refusal_of_local local_refusals
-      number_is = chain_then (issue_refusals table.header table.clock local) (not (room_for table (issued_by table local))) (numbered_chain table.header table.clock local) ∙ rw (sym f, eq-eqb r 0 z, sym (g ∙ room_same)) refl
+      number_is = chain_then (issue_refusals table.header table.clock local) (not (room_for table (issued_by table local))) (numbered_chain table.header table.clock local) ∙ rw (sym f, sym (g ∙ room_same)) refl
 
       pub number_none : b ≡ true → 0 ≡ refusal_of_local table local
       number_none t = sym (number_is ∙ rw t refl)
@@ -174,9 +178,9 @@ module _ (s : List ℕ) (C : Checked s) (n : ℕ) (en : n ≡ size_in s) (next :
       pub local_taken : (s₁ : List ℕ) → s₁ ≡ rewritten s (after_arrival table (operation_of a (take (n - 0) next)) table.last) → s₁ ≡ rewritten s (after_arrival table (issued_by table local) table.last)
       local_taken s₁ h = h ∙ ap (λ (u : Operation). rewritten s (after_arrival table u table.last)) issued_is
 
-pub number_early : (table : Table) (local : Local) (r : ℕ) → r ≡ first_of (issue_refusals table.header table.clock local) → (r ≡ 0 → ⊥) → r ≡ refusal_of_local table local
+pub number_early : (table : Table) (local : Local) (refusal : given.Refusal) → number_of refusal ≡ first_of (issue_refusals table.header table.clock local) → number_of refusal ≡ refusal_of_local table local
 unfolding refusal_of_local local_refusals
-number_early table local r f d = sym (chain_then (issue_refusals table.header table.clock local) (not (room_for table (issued_by table local))) (numbered_chain table.header table.clock local) ∙ rw (sym f, ne_eqb r 0 d) refl)
+number_early table local refusal f = sym (chain_then (issue_refusals table.header table.clock local) (not (room_for table (issued_by table local))) (numbered_chain table.header table.clock local) ∙ rw (sym f, ne_eqb (number_of refusal) 0 (number_above refusal)) refl)
 
 -- the space holds a table after an accepted local operation, and it is the table after it
 module _ (s : List ℕ) (C : Checked s) (local : Local) (ok : refusal_of_local (table_of s) local ≡ 0) where

@@ -1,4 +1,4 @@
-// A local operation offered to a checked table in lent words: the number that it gets, its vector, and what it changes where it is accepted. Refusal 10, of
+// A local operation offered to a checked table in lent words: the refusal that it gets, its vector, and what it changes where it is accepted. Refusal 10, of
 // the space for its frame, is tried by the caller before anything is changed.
 #![tactic(auto)]
 
@@ -11,23 +11,19 @@ ghost use Rattle.words_layout.specs.Words.{padded};
 ghost use Rattle.words_layout.specs.Layout.{own_in, rewritten, size_in, table_of};
 ghost use Rattle.table_change.specs.Changes.{EntryBelowLimit};
 ghost use Rattle.table_rules.specs.Checked.{Checked};
+ghost use Rattle.refusal_number.specs.Numbers.{refused};
 ghost use Rattle.refusal_order.specs.Fields.{local_from};
 
-use refusal_number::{FULL, NONE};
-use refusal_order::Header;
-use words_layout::{CAPACITY_AT, CLOCK_AT, COUNT_AT, KINDS_AT, OBJECTS_AT, OWN_AT, SIZE_AT};
+use refusal_number::Refusal;
+use words_layout::{CLOCK_AT, COUNT_AT, KINDS_AT, OBJECTS_AT, OWN_AT, SIZE_AT};
 use words_tags::{RowCount, Station, Value};
 
 // The first refusal of 3, 4 and 9, which ask the header and D alone.
-fn early_number(s: &[u32], size: usize, object: u32, code: u32, value: Value) -> u32
+fn early_refusal(s: &[u32], size: usize, object: u32, code: u32, value: Value) -> Result<(), Refusal>
     requires { Checked s.now × (size ≡ size_in s.now) }
-    ensures { result ≡ first_of (issue_refusals (table_of s.now).header (table_of s.now).clock (local_from object code value.0)) }
+    ensures { refused result ≡ first_of (issue_refusals (table_of s.now).header (table_of s.now).clock (local_from object code value.0)) }
 {
-    let h = Header {
-        size: s[SIZE_AT],
-        own: Station(s[OWN_AT]),
-        capacity: RowCount(s[CAPACITY_AT]),
-    };
+    let h = refusal_order::header_in(s);
     let end = KINDS_AT + words_tags::wide(s[OBJECTS_AT]);
     let last = CLOCK_AT + size;
     refusal_order::issue_refusal(
@@ -53,24 +49,22 @@ pub fn next_vector(s: &[u32]) -> [u32; meaning::MOST_STATIONS]
     next
 }
 
-// The number that a local operation gets, but for 10: 3, 4 and 9, then 8; nothing is changed.
-pub fn issue_number(s: &[u32], object: u32, code: u32, value: Value) -> u32
+// The refusal that a local operation gets, but for 10: 3, 4 and 9, then 8; nothing is changed.
+pub fn issue_number(s: &[u32], object: u32, code: u32, value: Value) -> Result<(), Refusal>
     requires { Checked s.now }
-    ensures { result ≡ refusal_of_local (table_of s.now) (local_from object code value.0) }
+    ensures { refused result ≡ refusal_of_local (table_of s.now) (local_from object code value.0) }
 {
     let size = words_tags::wide(s[SIZE_AT]);
     let count = RowCount(s[COUNT_AT]);
     let own = Station(s[OWN_AT]);
-    let early = early_number(s, size, object, code, value);
-    if early != NONE {
-        return early;
-    }
+    early_refusal(s, size, object, code, value)?;
     let offered = arrival::arrival_of(s, object, code, value, own);
     let next = next_vector(s);
     if arrival::has_room(s, size, count, offered, &next[0..size]) {
-        return NONE;
+        Ok(())
+    } else {
+        Err(Refusal::Full)
     }
-    FULL
 }
 
 // Takes an accepted local operation: it arrives with its vector, and L stays.

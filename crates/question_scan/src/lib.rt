@@ -12,17 +12,14 @@ use words_layout::{CODE_AT, HIGH_AT, LOW_AT, NO_HIGH};
 use words_tags::{RowCount, Value};
 
 // Whether the rows at two places are of different values, by their object and value words.
+#[tactic(auto, unfolding(crate::specs::Showing::same_key))]
 fn differ(rows: &[u32], at: usize, next: usize) -> bool
     requires { (at + key_words ≤ length rows.now) × (next + key_words ≤ length rows.now) }
     ensures { result ≡ not (same_key rows.now at next) }
 {
-    if rows[next] != rows[at] {
-        return true;
-    }
-    if rows[next + HIGH_AT] != rows[at + HIGH_AT] {
-        return true;
-    }
-    rows[next + LOW_AT] != rows[at + LOW_AT]
+    rows[next] != rows[at]
+        || rows[next + HIGH_AT] != rows[at + HIGH_AT]
+        || rows[next + LOW_AT] != rows[at + LOW_AT]
 }
 
 // Whether the row at a place shows a value of the object: an add row, and the row behind it is of another value.
@@ -30,16 +27,9 @@ fn shows_at(rows: &[u32], width: usize, at: usize, more: RowCount, object: u32) 
     requires { (at + more.0 * width ≤ length rows.now) × (0 < more.0) × (key_words ≤ width) × (at + key_words ≤ length rows.now) }
     ensures { result ≡ shows object (row_of (take width (drop at rows.now))) (map row_of (pieces width (more.0 - 1) (drop (at + width) rows.now))) }
 {
-    if rows[at] != object {
-        return false;
-    }
-    if rows[at + CODE_AT] != ADDS {
-        return false;
-    }
-    if more.0 == 1 {
-        return true;
-    }
-    differ(rows, at, at + width)
+    rows[at] == object
+        && rows[at + CODE_AT] == ADDS
+        && (more.0 == 1 || differ(rows, at, at + width))
 }
 
 // Whether the row at a place shows this value of the object.
@@ -54,13 +44,9 @@ fn shows_value_at(
     requires { (at + more.0 * width ≤ length rows.now) × (0 < more.0) × (key_words ≤ width) × (at + key_words ≤ length rows.now) }
     ensures { result ≡ shows_value object value.0 (row_of (take width (drop at rows.now))) (map row_of (pieces width (more.0 - 1) (drop (at + width) rows.now))) }
 {
-    if rows[at + HIGH_AT] != NO_HIGH {
-        return false;
-    }
-    if rows[at + LOW_AT] != value.0 {
-        return false;
-    }
-    shows_at(rows, width, at, more, object)
+    rows[at + HIGH_AT] == NO_HIGH
+        && rows[at + LOW_AT] == value.0
+        && shows_at(rows, width, at, more, object)
 }
 
 // Whether a value of the object is shown.
@@ -68,14 +54,11 @@ pub fn value_shown(rows: &[u32], width: usize, count: RowCount, object: u32, val
     requires { (count.0 * width ≤ length rows.now) × (key_words ≤ width) }
     ensures { result ≡ value_shown object value.0 (map row_of (pieces width count.0 rows.now)) }
 {
-    let mut at = 0;
-    let mut more = count.0;
-    while 0 < more {
-        if shows_value_at(rows, width, at, RowCount(more), object, value) {
+    for i in 0..count.0 {
+        let at = words_tags::wide(i) * width;
+        if shows_value_at(rows, width, at, RowCount(count.0 - i), object, value) {
             return true;
         }
-        at += width;
-        more -= 1;
     }
     false
 }
@@ -85,18 +68,13 @@ pub fn next_shown(rows: &[u32], width: usize, at: usize, more: RowCount, object:
     requires { (at + more.0 * width ≤ length rows.now) × (key_words ≤ width) }
     ensures { result.0 ≡ before_shown object (map row_of (pieces width more.0 (drop at rows.now))) }
 {
-    let mut place = at;
-    let mut ahead = more.0;
-    let mut passed = 0;
-    while 0 < ahead {
-        if shows_at(rows, width, place, RowCount(ahead), object) {
-            return RowCount(passed);
+    for i in 0..more.0 {
+        let place = at + words_tags::wide(i) * width;
+        if shows_at(rows, width, place, RowCount(more.0 - i), object) {
+            return RowCount(i);
         }
-        place += width;
-        ahead -= 1;
-        passed += 1;
     }
-    RowCount(passed)
+    more
 }
 
 // How many values of the object are shown: the headcount, which never counts log rows.
@@ -104,18 +82,12 @@ pub fn count_shown(rows: &[u32], width: usize, count: RowCount, object: u32) -> 
     requires { (count.0 * width ≤ length rows.now) × (key_words ≤ width) }
     ensures { result.0 ≡ count_shown object (map row_of (pieces width count.0 rows.now)) }
 {
-    let mut at = 0;
-    let mut more = count.0;
     let mut found = 0;
-    while 0 < more {
-        let passed = next_shown(rows, width, at, RowCount(more), object).0;
-        if passed == more {
-            return RowCount(found);
+    for i in 0..count.0 {
+        let at = words_tags::wide(i) * width;
+        if shows_at(rows, width, at, RowCount(count.0 - i), object) {
+            found += 1;
         }
-        let step = passed + 1;
-        at += words_tags::wide(step) * width;
-        more -= step;
-        found += 1;
     }
     RowCount(found)
 }

@@ -5,28 +5,57 @@ ghost use Rattle.std.specs.Prelude.{◌≡◌, ltb, length};
 ghost use Rattle.meaning.specs.Operations.{allowed, code_allowed, is_flag, value_allowed};
 ghost use Rattle.meaning.specs.Questions.{fits};
 ghost use Rattle.meaning.specs.Refusals.{well_asked};
+ghost use Rattle.table_kinds.specs.Kinds.{code_number, kind_number};
 ghost use Rattle.refusal_kind.specs.Asking.{asked_from};
+ghost use Rattle.refusal_kind.specs.Questions.{AsksOf};
 
-use table_kinds::{
-    ADDS, CLEARS, DISABLE_WINS_FLAG, ENABLE_WINS_FLAG, GROW_COUNTER, GROW_SET,
-    MULTI_VALUE_REGISTER, REMOVE_WINS_SET, REMOVES,
-};
+use std::error::Error;
+use std::fmt;
+use table_kinds::{Code, Kind};
 use words_tags::Value;
 
 const LEAST_AMOUNT: u32 = 1;
 
 const NO_VALUE: u32 = 0;
 
-// The five questions.
-pub const ASKS_TOTAL: u32 = 1;
+// The five questions, in the order of their numbers, from 1 on.
+#[derive(Clone, Copy, Debug, PartialEq, Eq)]
+pub enum Asks {
+    Total,
+    Flag,
+    List,
+    Count,
+    Holds,
+}
 
-pub const ASKS_FLAG: u32 = 2;
+// A number that is no question's.
+#[derive(Clone, Copy, Debug, PartialEq, Eq)]
+pub struct UnknownQuestion(pub u32);
 
-pub const ASKS_LIST: u32 = 3;
+impl TryFrom<u32> for Asks {
+    type Error = UnknownQuestion;
 
-pub const ASKS_COUNT: u32 = 4;
+    ghost try_from_gives = { AsksOf };
 
-pub const ASKS_HOLDS: u32 = 5;
+    fn try_from(number: u32) -> Result<Self, UnknownQuestion> {
+        match number {
+            1 => Ok(Asks::Total),
+            2 => Ok(Asks::Flag),
+            3 => Ok(Asks::List),
+            4 => Ok(Asks::Count),
+            5 => Ok(Asks::Holds),
+            _ => Err(UnknownQuestion(number)),
+        }
+    }
+}
+
+impl fmt::Display for UnknownQuestion {
+    fn fmt<W: fmt::Write>(&self, f: &mut fmt::Formatter<W>) -> fmt::Result {
+        write!(f, "no question has the number {}", self.0)
+    }
+}
+
+impl Error for UnknownQuestion {}
 
 // Whether an object is declared.
 pub fn is_declared(kinds: &[u32], object: u32) -> bool
@@ -36,100 +65,78 @@ pub fn is_declared(kinds: &[u32], object: u32) -> bool
 }
 
 // Whether objects of this kind are flags, whose operations carry no value.
-fn is_flag(kind: u32) -> bool
-    ensures { result ≡ is_flag kind }
+#[tactic(auto, unfolding(meaning::specs::Operations::is_flag))]
+fn is_flag(kind: Kind) -> bool
+    ensures { result ≡ is_flag (kind_number kind) }
 {
-    if kind == ENABLE_WINS_FLAG {
-        return true;
-    }
-    kind == DISABLE_WINS_FLAG
+    matches!(kind, Kind::EnableWinsFlag | Kind::DisableWinsFlag)
 }
 
 // Whether a kind has this code: all kinds have adds, the grow-only ones and the register no removes, the last three clears.
-fn code_allowed(kind: u32, code: u32) -> bool
-    ensures { result ≡ code_allowed kind code }
+#[tactic(auto, unfolding(meaning::specs::Operations::code_allowed, meaning::specs::Operations::codes_of))]
+fn code_allowed(kind: Kind, code: Code) -> bool
+    ensures { result ≡ code_allowed (kind_number kind) (code_number code) }
 {
-    if kind < GROW_COUNTER {
-        return false;
+    match code {
+        Code::Adds => true,
+        Code::Removes => !matches!(
+            kind,
+            Kind::GrowCounter | Kind::GrowSet | Kind::MultiValueRegister
+        ),
+        Code::Clears => matches!(
+            kind,
+            Kind::MultiValueRegister | Kind::AddWinsSet | Kind::RemoveWinsSet
+        ),
     }
-    if REMOVE_WINS_SET < kind {
-        return false;
-    }
-    if code == ADDS {
-        return true;
-    }
-    if code == CLEARS {
-        return MULTI_VALUE_REGISTER <= kind;
-    }
-    if code != REMOVES {
-        return false;
-    }
-    if kind == GROW_COUNTER {
-        return false;
-    }
-    if kind == GROW_SET {
-        return false;
-    }
-    kind != MULTI_VALUE_REGISTER
 }
 
 // Whether an operation of this code may carry this value, where the kind has the code.
-fn value_allowed(kind: u32, code: u32, value: Value) -> bool
-    ensures { result ≡ value_allowed kind code value.0 }
+#[tactic(auto, unfolding(meaning::specs::Operations::value_allowed, meaning::specs::Tests::between))]
+fn value_allowed(kind: Kind, code: Code, value: Value) -> bool
+    ensures { result ≡ value_allowed (kind_number kind) (code_number code) value.0 }
 {
-    if table_kinds::is_counter(kind) {
-        if value.0 < LEAST_AMOUNT {
-            return false;
-        }
-        return value.0 <= meaning::GREATEST_AMOUNT;
+    if kind.is_counter() {
+        (LEAST_AMOUNT..=meaning::GREATEST_AMOUNT).contains(&value.0)
+    } else if is_flag(kind) || code == Code::Clears {
+        value.0 == NO_VALUE
+    } else {
+        true
     }
-    if is_flag(kind) {
-        return value.0 == NO_VALUE;
-    }
-    if code == CLEARS {
-        return value.0 == NO_VALUE;
-    }
-    true
 }
 
-// Whether a kind allows an operation of this code and value; no kind but the nine allows any.
+// Whether a kind allows an operation of this code and value; no kind but the nine allows any, and no code but the three is allowed.
+#[tactic(auto, using(crate::proofs::Allowances::kind_unknown), unfolding(meaning::specs::Operations::allowed))]
 pub fn is_allowed(kind: u32, code: u32, value: Value) -> bool
     ensures { result ≡ allowed kind code value.0 }
 {
-    if code_allowed(kind, code) {
-        return value_allowed(kind, code, value);
-    }
-    false
+    let (Ok(kind), Ok(code)) = (Kind::try_from(kind), Code::try_from(code)) else {
+        return false;
+    };
+    code_allowed(kind, code) && value_allowed(kind, code, value)
 }
 
 // Whether a question fits a kind: totals are asked of counters, on or off of flags, and all else of the others.
+#[tactic(auto, using(table_kinds::proofs::KindLaws::none_counts, crate::proofs::Allowances::none_flags), unfolding(meaning::specs::Questions::fits))]
 pub fn is_fitted(question: u32, kind: u32) -> bool
     ensures { result ≡ fits question kind }
 {
-    if question == ASKS_TOTAL {
-        return table_kinds::is_counter(kind);
+    match (Asks::try_from(question), Kind::try_from(kind)) {
+        (Ok(Asks::Total), Ok(kind)) => kind.is_counter(),
+        (Ok(Asks::Flag), Ok(kind)) => is_flag(kind),
+        (Ok(Asks::Total | Asks::Flag), Err(_)) => false,
+        (_, Ok(kind)) => !kind.is_counter() && !is_flag(kind),
+        (_, Err(_)) => true,
     }
-    if question == ASKS_FLAG {
-        return is_flag(kind);
-    }
-    if table_kinds::is_counter(kind) {
-        return false;
-    }
-    !is_flag(kind)
 }
 
 // Whether a question is known, with a value only where it takes one; its object does not matter here.
+#[tactic(auto, unfolding(meaning::specs::Refusals::well_asked, meaning::specs::Tests::between))]
 pub fn well_asked(question: u32, value: Value) -> bool
     ensures { result ≡ well_asked (asked_from 0 question value.0) }
 {
-    if question < ASKS_TOTAL {
-        return false;
+    match Asks::try_from(question) {
+        Ok(Asks::Holds) => true,
+        Ok(_) => value.0 == NO_VALUE,
+        Err(_) => false,
     }
-    if ASKS_HOLDS < question {
-        return false;
-    }
-    if question == ASKS_HOLDS {
-        return true;
-    }
-    value.0 == NO_VALUE
 }

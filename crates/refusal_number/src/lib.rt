@@ -1,47 +1,85 @@
-// The refusal numbers, once for all crates. 11 is answered with a count, so it is a case of its own in `question`. This crate has no functions.
+// The refusals and their numbers, once for all crates. 11 is answered with a count, so it is a case of its own in `question`.
 #![tactic(auto)]
 
-// Nothing is refused.
-pub const NONE: u32 = 0;
+ghost use Rattle.std.specs.Prelude.{◌≡◌};
+ghost use Rattle.refusal_number.specs.Numbers.{number_of};
 
-// Wrong length or type, another N, no line, an unknown question, a value where none is asked.
-pub const MISSHAPEN: u32 = 1;
+use std::error::Error;
+use std::fmt;
 
-// A sender that is not in the group, or the own station.
-pub const STRANGER: u32 = 2;
+#[derive(Clone, Copy, Debug, PartialEq, Eq)]
+pub enum Refusal {
+    // Wrong length or type, another N, no line, an unknown question, a value where none is asked.
+    Misshapen,
 
-// An object that is not declared.
-pub const UNDECLARED: u32 = 3;
+    // A sender that is not in the group, or the own station.
+    Stranger,
 
-// A code, value or amount that the kind does not allow.
-pub const FORBIDDEN: u32 = 4;
+    // An object that is not declared.
+    Undeclared,
 
-// A number that was accepted already.
-pub const KNOWN: u32 = 5;
+    // A code, value or amount that the kind does not allow.
+    Forbidden,
 
-// A number or an entry that comes too early.
-pub const EARLY: u32 = 6;
+    // A number that was accepted already.
+    Known,
 
-// An entry below the sender's last vector.
-pub const FALLING: u32 = 7;
+    // A number or an entry that comes too early.
+    Early,
 
-// More rows than capacity.
-pub const FULL: u32 = 8;
+    // An entry below the sender's last vector.
+    Falling,
 
-// No further own number.
-pub const LAST: u32 = 9;
+    // More rows than capacity.
+    Full,
 
-// A space that is shorter than the frame or the line.
-pub const NO_ROOM: u32 = 10;
+    // No further own number.
+    Last,
 
-// A question that does not fit the kind.
-pub const UNFITTED: u32 = 12;
+    // A space that is shorter than the frame or the line.
+    NoRoom,
 
-// An opening out of range, in too small a space, or a second one.
-pub const UNOPENED: u32 = 13;
+    // A question that does not fit the kind.
+    Unfitted,
 
-// A space that holds no table.
-pub const NO_TABLE: u32 = 14;
+    // An opening out of range, in too small a space, or a second one.
+    Unopened,
 
-// A wrong line of a form, or a form that ends too early or goes on.
-pub const WRONG: u32 = 15;
+    // A space that holds no table.
+    NoTable,
+
+    // A wrong line of a form, or a form that ends too early or goes on.
+    Wrong,
+}
+
+impl Refusal {
+    // The number that is answered.
+    pub fn number(self) -> u32
+        ensures { result ≡ number_of self }
+    {
+        match self {
+            Refusal::Misshapen => 1,
+            Refusal::Stranger => 2,
+            Refusal::Undeclared => 3,
+            Refusal::Forbidden => 4,
+            Refusal::Known => 5,
+            Refusal::Early => 6,
+            Refusal::Falling => 7,
+            Refusal::Full => 8,
+            Refusal::Last => 9,
+            Refusal::NoRoom => 10,
+            Refusal::Unfitted => 12,
+            Refusal::Unopened => 13,
+            Refusal::NoTable => 14,
+            Refusal::Wrong => 15,
+        }
+    }
+}
+
+impl fmt::Display for Refusal {
+    fn fmt<W: fmt::Write>(&self, f: &mut fmt::Formatter<W>) -> fmt::Result {
+        write!(f, "refused with number {}", self.number())
+    }
+}
+
+impl Error for Refusal {}

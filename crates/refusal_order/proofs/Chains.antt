@@ -5,6 +5,7 @@ use mathlib.Core.Bool.{Bool, true, false, ◌&&◌}
 use mathlib.Core.List.{List, [], ◌∷◌}
 use native.Mathlib.Omega.{arith}
 use borrow.Author.Tests.{eq-eqb, lt-ltb, le-ltb}
+use Rattle.std.proofs.lemmas.Bool.{leb-true, leb-false}
 use mir.Val.{Fits}
 use mir.Syntax.{w32}
 use lib.Dec.{leb, ltb, eqb}
@@ -24,14 +25,6 @@ use Rattle.refusal_time.specs.Lasts.{last_of}
 use Rattle.refusal_order.specs.Fields.{header_from, header_of_kinds, frame_from, local_from, is_stranger}
 use Rattle.refusal_order.specs.declared.Header.{Header}
 use Rattle.refusal_order.specs.declared.Sent.{Sent}
-
--- 2: outside of the group, or the own station
-module _ (sender size own : ℕ) where
-  pub stranger_outside : size ≤ sender → true ≡ is_stranger sender size own
-  stranger_outside h = rw (le-ltb sender size h) refl
-
-  pub stranger_own : sender < size → eqb sender own ≡ is_stranger sender size own
-  stranger_own h = rw (lt-ltb sender size h) refl
 
 -- the vector is as long as the group is large
 pub rising_room : (entries size words : ℕ) → entries ≡ size → size * size ≤ words → entries * entries ≤ words
@@ -198,10 +191,15 @@ module _ (h : Header) (kinds : List ℕ) (space : ℕ) (a : Bool) (ea : a ≡ in
     needs : needed ≡ space_for h.size h.capacity.0
     needs = en ∙ rw es refl
 
-    pub opening_space : space < needed → 13 ≡ opens
-    unfolding opening_refusals
-    opening_space l = rw (sym ea ∙ ta, lt-ltb space (space_for h.size h.capacity.0) (rw (sym needs) l)) refl
+    module _ (r : Bool) (er : r ≡ leb needed space) where
+      pub opening_passes : r ≡ true → 0 ≡ opens
+      unfolding opening_refusals
+      opening_passes t =
+          let l : needed ≤ space = leb-true needed space (sym er ∙ t) in
+          rw (sym ea ∙ ta, le-ltb space (space_for h.size h.capacity.0) (rw (sym needs) l)) refl
 
-    pub opening_passes : needed ≤ space → 0 ≡ opens
-    unfolding opening_refusals
-    opening_passes l = rw (sym ea ∙ ta, le-ltb space (space_for h.size h.capacity.0) (rw (sym needs) l)) refl
+      pub opening_space : r ≡ false → 13 ≡ opens
+      unfolding opening_refusals
+      opening_space t =
+          let l : space < needed = leb-false needed space (sym er ∙ t) in
+          rw (sym ea ∙ ta, lt-ltb space (space_for h.size h.capacity.0) (rw (sym needs) l)) refl

@@ -20,29 +20,6 @@ use Rattle.words_tags.proofs.Pairs.{Passed, at_most_by_pairs, start, pair_fails,
 use Rattle.refusal_time.specs.Lasts.{last_of}
 use Rattle.meaning.specs.Table.{greatest_size}
 
--- the number of a frame, and the own one
-pub number_known : (v clock : Vector) (sender number last : ℕ) → number ≡ get_or v sender 0 → last ≡ get_or clock sender 0 → leb number last ≡ leb (get_or v sender 0) (get_or clock sender 0)
-number_known v clock sender number last n l = rw (n, l) refl
-
-pub number_last : (clock : Vector) (own number : ℕ) → number ≡ get_or clock own 0 → eqb number (entry_limit - 1) ≡ eqb (suc (get_or clock own 0)) entry_limit
-number_last clock own number n = rw (sym n) (cases (eqb number (entry_limit - 1))
-    (λ q. let e = eqb-true number (entry_limit - 1) q in rw q (sym (eq-eqb (suc number) entry_limit (omega arith))))
-    (λ q. let d = eqb-false number (entry_limit - 1) q in rw q (sym (ne_eqb (suc number) entry_limit (λ z. d (omega arith))))))
-
--- one entry
-module _ (entry known : ℕ) (own : Bool) where
-  pub entry_known : entry ≤ known → true ≡ leb entry (cond own (suc known) known)
-  entry_known h = cases own (λ e. rw e (sym (le-leb entry (suc known) (omega arith)))) (λ e. rw e (sym (le-leb entry known h)))
-
-  module _ (h : known < entry) where
-    pub entry_next : own ≡ true → eqb (entry - known) 1 ≡ leb entry (cond own (suc known) known)
-    entry_next e = rw e (cases (eqb (entry - known) 1)
-        (λ q. let p = eqb-true (entry - known) 1 q in rw q (sym (le-leb entry (suc known) (omega arith))))
-        (λ q. let p = eqb-false (entry - known) 1 q in rw q (sym (lt-leb entry (suc known) (omega arith)))))
-
-    pub entry_ahead : own ≡ false → false ≡ leb entry (cond own (suc known) known)
-    entry_ahead e = rw e (sym (lt-leb entry known h))
-
 -- i entries are passed, with one that may be one more at the sender's place
 pub record Timely (v clock : Vector) (at : ℕ) (good : Bool) (i : ℕ) : Type 0 where
   pub sized : length v ≡ length clock
@@ -82,30 +59,9 @@ module _ (v : Vector) (lasts : List ℕ) (sender at : ℕ) (e : at ≡ sender) w
       let l : length (pieces (length v) (length v) lasts) ≤ sender = omega (arith, e, length_pieces (length v) (length v) lasts) in
       rw (get_or-eq_default (pieces (length v) (length v) lasts) [] l) refl
 
-  module _ (few : length v ≤ greatest_size) (h : at < length v) where
-    place_small : at * length v ≤ greatest_size * greatest_size
-    place_small = let l : at ≤ greatest_size = omega arith in mul-le-mul l few
-
-    pub last_place_fits : Fits w64 (at * length v)
-    last_place_fits = omega (arith, place_small)
-
-    pub last_place_scaled : Fits w64 (at * length v * 4)
-    last_place_scaled = omega (arith, place_small)
-
-    pub last_end_fits : Fits w64 (at * length v + length v)
-    last_end_fits = omega (arith, place_small)
-
-    module _ (room : length v * length v ≤ length lasts) where
-      pub last_end : at * length v + length v ≤ length lasts
-      last_end = omega (arith, suc-mul at (length v), mul-le-mul_right (length v) h)
-
-      pub last_long : length (take (at * length v + length v - at * length v) (drop (at * length v) lasts)) ≡ length v
-      last_long =
-          let q : at * length v + length v - at * length v ≡ length v = omega arith in
-          rw q (length-take-le (length v) (drop (at * length v) lasts) (simp length-drop (omega (arith, last_end))))
-
-      pub last_there : (r : Bool) → r ≡ at_most (take (at * length v + length v - at * length v) (drop (at * length v) lasts)) v → r ≡ at_most (last_of (length v) lasts sender) v
-      last_there r f =
-          let q : at * length v + length v - at * length v ≡ length v = omega arith in
-          let there : take (at * length v + length v - at * length v) (drop (at * length v) lasts) ≡ last_of (length v) lasts sender = rw q (sym (piece_at (length v) (length v) at lasts h) ∙ ap (last_of (length v) lasts) e) in
-          f ∙ ap (λ (u : Vector). at_most u v) there
+  module _ (h : at < length v) where
+    pub last_there : (r : Bool) → r ≡ at_most (take (at * length v + length v - at * length v) (drop (at * length v) lasts)) v → r ≡ at_most (last_of (length v) lasts sender) v
+    last_there r f =
+        let q : at * length v + length v - at * length v ≡ length v = omega arith in
+        let there : take (at * length v + length v - at * length v) (drop (at * length v) lasts) ≡ last_of (length v) lasts sender = rw q (sym (piece_at (length v) (length v) at lasts h) ∙ ap (last_of (length v) lasts) e) in
+        f ∙ ap (λ (u : Vector). at_most u v) there

@@ -26,13 +26,7 @@ pub fn is_last(clock: &[u32], own: Station) -> bool
 fn entry_in_time(entry: u32, known: u32, own: bool) -> bool
     ensures { result ≡ leb entry (cond own (suc known) known) }
 {
-    if entry <= known {
-        return true;
-    }
-    if own {
-        return entry - known == 1;
-    }
-    false
+    entry <= known || own && entry - known == 1
 }
 
 // Whether no entry comes too early; it notes a fault and goes on to the end, as words_tags::at_most does.

@@ -17,7 +17,7 @@ use Rattle.meaning.proofs.Tests.{iff, cases, clash, fails, and_left, and_right, 
 use Rattle.meaning.proofs.Ascending.{Sorted, asc_left, asc_right, asc_cross}
 use Rattle.meaning.proofs.RowLaws.{on_eq, on_self}
 use Rattle.meaning.proofs.RowOrder.{code_rises, settled_once, settled_first, behind_same, above_same}
-use Rattle.settling_step.specs.declared.Neighbour.{Neighbour}
+use Rattle.settling_step.specs.Standing.{Standing}
 use Rattle.settling_step.specs.declared.Step.{Step}
 use Rattle.settling_step.specs.declared.Step.TheVariants.{Keeps, Settles, Drops, DropsBoth}
 use Rattle.settling_step.specs.Stepping.{pick, step_among, beside, beside_next, beside_last, remove_decided, add_decided, decided}
@@ -112,7 +112,7 @@ module _ (kind : ℕ) (u : Operation) (above below : List Row) (S : Sorted (abov
       go [] e = refl
       go (x ∷ l) e =
           let v = ended u x l in
-          ap (any (same_value u)) v.is ∙ above_same (unsettled_row u) v.front below v.last (subst (λ (m : List Row). Sorted (m ++ here)) (e ∙ v.is) S) ∙ ap (λ (n : Neighbour). n.same) (sym v.neighbour)
+          ap (any (same_value u)) v.is ∙ above_same (unsettled_row u) v.front below v.last (subst (λ (m : List Row). Sorted (m ++ here)) (e ∙ v.is) S) ∙ ap (λ (n : Standing). n.same) (sym v.neighbour)
 
   below_tells : any (same_value u) below ≡ (beside_next u below).same
   unfolding beside_next beside
@@ -221,16 +221,16 @@ module _ (kind : ℕ) (u : Operation) (above below : List Row) (S : Sorted (abov
       let s = any_out is_add above added in
       let p : (beside_last u above).same ≡ true = sym above_tells ∙ any_in (same_value u) s.1 (add_is_same s.0 s.2) in
       let l = last_of p in
-      let same : same_value u l.row ≡ true = ap (λ (b : Neighbour). b.same) (sym l.is) ∙ p in
+      let same : same_value u l.row ≡ true = ap (λ (b : Standing). b.same) (sym l.is) ∙ p in
       let one : l.row.operation.code ≡ 1 = ⊎_elim (λ e. e) (λ e. clash (any is_remove O) (any_in is_remove (mathlib.Core.List.Memᴰ.append_left below l.member) (remove_by l.row same e)) n) (code_of l.row (in_above l.member) same) in
-      rw (next, p) (ap (λ (b : Neighbour). b.adds) l.is ∙ eq-eqb l.row.operation.code 1 one)
+      rw (next, p) (ap (λ (b : Standing). b.adds) l.is ∙ eq-eqb l.row.operation.code 1 one)
 
   by_settles : (beside_next u below).same ≡ false → (beside_last u above).same ≡ true → (beside_last u above).adds ≡ true → (any is_add O ≡ true) × (any is_remove O ≡ false)
   unfolding beside
   by_settles next p d =
       let l = last_of p in
-      let same : same_value u l.row ≡ true = ap (λ (b : Neighbour). b.same) (sym l.is) ∙ p in
-      let one : l.row.operation.code ≡ 1 = eqb-true l.row.operation.code 1 (ap (λ (b : Neighbour). b.adds) (sym l.is) ∙ d) in (
+      let same : same_value u l.row ≡ true = ap (λ (b : Standing). b.same) (sym l.is) ∙ p in
+      let one : l.row.operation.code ≡ 1 = eqb-true l.row.operation.code 1 (ap (λ (b : Standing). b.adds) (sym l.is) ∙ d) in (
         any_in is_add (mathlib.Core.List.Memᴰ.append_left below l.member) (add_by l.row same one),
         both is_remove ∙ rw (none_below next is_remove remove_is_same) (fails (any is_remove above || false) (λ h. ⊎_elim
             (λ h. let s = any_out is_remove above h in

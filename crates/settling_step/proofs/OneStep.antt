@@ -7,7 +7,7 @@ use native.Mathlib.Omega.{arith}
 use lib.ListN.{get_or, take, drop}
 use Rattle.meaning.specs.Tests.{any}
 use Rattle.meaning.specs.Order.{Vector}
-use Rattle.meaning.specs.Operations.{Operation}
+use Rattle.meaning.specs.Operations.{Operation, removes_stand}
 use Rattle.meaning.specs.Rows.{Row, unsettled_row, settled_row}
 use Rattle.meaning.specs.Settling.{due, becomes_settled, dropped_with, step_at}
 use Rattle.meaning.specs.Table.{kind_in, is_table}
@@ -18,10 +18,12 @@ use Rattle.words_layout.specs.Layout.{row_of, row_words}
 use Rattle.words_layout.proofs.Pieces.{Each, map_back, word_at}
 use Rattle.words_layout.proofs.RowWords.{row_read_lem}
 use Rattle.words_layout.proofs.Whole.{back_each}
+use Rattle.std.proofs.Common.{Option}
 use Rattle.settling_step.specs.declared.Neighbour.{Neighbour}
+use Rattle.settling_step.specs.Standing.{Standing, seen, stands_as}
 use Rattle.settling_step.specs.declared.Step.{Step}
 use Rattle.settling_step.specs.declared.Step.TheVariants.{Keeps, Settles, Drops, DropsBoth}
-use Rattle.settling_step.specs.Stepping.{pick, step_among, step_for, beside_next, beside_last, decided}
+use Rattle.settling_step.specs.Stepping.{pick, step_among, step_for, beside_next, beside_last, remove_decided, add_decided, decided}
 use Rattle.settling_step.specs.Held.{kind_at, Held}
 use Rattle.settling_step.proofs.Testing.{row_at}
 use Rattle.settling_step.proofs.Ruled.{decides_in, settles_in, drops_in, both_in, some_in}
@@ -145,6 +147,19 @@ module _ (kinds low : List ℕ) (n : ℕ) (ls ms : List (List ℕ)) (ws : List �
     pub some_words : DropsBoth ≡ step_among (kind_at kinds u.object) u above below → ms ≡ [] → ⊥
     some_words e f = some_in H.table above below u ruled (e ∙ rw same_kind refl) (ap (map row_of) f)
 
+-- what is told of the rows beside a row decides what they decide
+remove_seen : (a b : Standing) → remove_decided (stands_as (seen a)) (stands_as (seen b)) ≡ remove_decided a b
+unfolding remove_decided
+remove_seen a b = cases b.same (λ q. rw q refl) (λ q. cases a.same (λ p. rw (p, q) refl) (λ p. rw (p, q) refl))
+
+add_seen : (stands : Bool) (a b : Standing) → add_decided stands (stands_as (seen a)) (stands_as (seen b)) ≡ add_decided stands a b
+unfolding add_decided
+add_seen stands a b = cases a.same (λ p. rw p refl) (λ p. cases b.same (λ q. rw (p, q) refl) (λ q. rw (p, q) refl))
+
+decided_seen : (kind code : ℕ) (a b : Standing) → decided kind code (stands_as (seen a)) (stands_as (seen b)) ≡ decided kind code a b
+unfolding decided
+decided_seen kind code a b = rw (remove_seen a b, add_seen (removes_stand kind) a b) refl
+
 -- the step at a row, from its words
 module _ (kinds low s : List ℕ) (n at more left : ℕ) (H : Held kinds n (pieces (7 + n) left s ++ (take (7 + n) (drop at s) ∷ pieces (7 + n) more (drop (at + (7 + n)) s)))) (d : Bool) (e : d ≡ due low (row_of (take (at + (7 + n) - at) (drop at s)))) where
   abbrev row : Row
@@ -163,11 +178,12 @@ module _ (kinds low s : List ℕ) (n at more left : ℕ) (H : Held kinds n (piec
   unfolding step_for
   step_kept f = rw (sym due_is ∙ f) refl
 
-  pub step_decided : d ≡ true → (kind : ℕ) (before behind : Neighbour) (r : Step) → kind ≡ get_or kinds (get_or s at 0) 0 → before ≡ beside_last row.operation over → behind ≡ beside_next row.operation under →
-      r ≡ decided kind (get_or s (at + 3) 0) before behind → r ≡ step_for (kind_at kinds) low over row under
+  pub step_decided : d ≡ true → (kind : ℕ) (before behind : Option Neighbour) (r : Step) → kind ≡ get_or kinds (get_or s at 0) 0 → before ≡ seen (beside_last row.operation over) → behind ≡ seen (beside_next row.operation under) →
+      r ≡ decided kind (get_or s (at + 3) 0) (stands_as before) (stands_as behind) → r ≡ step_for (kind_at kinds) low over row under
   unfolding step_for kind_at
   step_decided t kind before behind r k a b f =
       let o : get_or (take (7 + n) (drop at s)) 0 0 ≡ get_or s at 0 = word_at s (7 + n) at 0 (omega arith) ∙ ap (λ (i : ℕ). get_or s i 0) (let z : at + 0 ≡ at = omega arith in z) in
       let c : get_or (take (7 + n) (drop at s)) 3 0 ≡ get_or s (at + 3) 0 = word_at s (7 + n) at 3 (omega arith) in
-      let g : r ≡ decided (get_or kinds row.operation.object 0) row.operation.code (beside_last row.operation over) (beside_next row.operation under) = f ∙ rw (k, a, b, o, c) refl in
+      let told : r ≡ decided (get_or kinds row.operation.object 0) row.operation.code (stands_as (seen (beside_last row.operation over))) (stands_as (seen (beside_next row.operation under))) = f ∙ rw (k, a, b, o, c) refl in
+      let g : r ≡ decided (get_or kinds row.operation.object 0) row.operation.code (beside_last row.operation over) (beside_next row.operation under) = told ∙ decided_seen (get_or kinds row.operation.object 0) row.operation.code (beside_last row.operation over) (beside_next row.operation under) in
       rw (sym due_is ∙ t) (g ∙ sym (decides_words kinds low n (pieces (7 + n) left s) (pieces (7 + n) more (drop (at + (7 + n)) s)) (take (7 + n) (drop at s)) H (sym due_is ∙ t)))

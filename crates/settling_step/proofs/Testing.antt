@@ -1,7 +1,7 @@
 -- The tests of a row and of what stands beside it, in the words of the meaning.
 use Prim.Native.Nat.{ℕ, zero, suc, ◌+◌, ◌-◌, ◌*◌, ◌≤◌, ◌<◌}
 use mathlib.Core.Path.{◌≡◌, refl, sym, ap, ◌∙◌}
-use mathlib.Core.Bool.{Bool, true, false}
+use mathlib.Core.Bool.{Bool, true, false, not}
 use mathlib.Core.List.{List, [], ◌∷◌, ◌++◌, map}
 use native.Mathlib.Omega.{arith}
 use native.Mathlib.Nat.{suc-mul, zero-mul}
@@ -12,79 +12,20 @@ use lib.Seq.{take_all, length-take-le, drop-drop}
 use mir.Val.{Fits}
 use mir.Syntax.{w32, w64}
 use Rattle.meaning.specs.Order.{at_most, same}
-use Rattle.meaning.specs.Operations.{Operation, removes_stand}
+use Rattle.meaning.specs.Operations.{Operation}
 use Rattle.meaning.specs.Rows.{Row}
 use Rattle.meaning.specs.Settling.{stable_by, due}
-use Rattle.meaning.proofs.Tests.{cases}
 use Rattle.words_layout.specs.Words.{pieces}
 use Rattle.words_layout.specs.Layout.{row_of}
 use Rattle.table_rules_rows.proofs.Ordering.{same_words}
+use Rattle.std.proofs.Common.{Option, None, Some}
 use Rattle.settling_step.specs.declared.Neighbour.{Neighbour}
-use Rattle.settling_step.specs.declared.Step.{Step}
-use Rattle.settling_step.specs.declared.Step.TheVariants.{Settles, Drops, DropsBoth}
-use Rattle.settling_step.specs.Stepping.{nobody, beside, beside_next, beside_last, remove_decided, add_decided, decided}
-
--- a remove
-module _ (before behind : Neighbour) where
-  pub remove_followed : behind.same ≡ true → Drops ≡ remove_decided before behind
-  unfolding remove_decided
-  remove_followed e = rw e refl
-
-  pub remove_settles : behind.same ≡ false → before.same ≡ true → before.adds ≡ true → Settles ≡ remove_decided before behind
-  unfolding remove_decided
-  remove_settles e f g = rw (e, f, g) refl
-
-  pub remove_after_remove : behind.same ≡ false → before.same ≡ true → before.adds ≡ false → Drops ≡ remove_decided before behind
-  unfolding remove_decided
-  remove_after_remove e f g = rw (e, f, g) refl
-
-  pub remove_alone : behind.same ≡ false → before.same ≡ false → Drops ≡ remove_decided before behind
-  unfolding remove_decided
-  remove_alone e f = rw (e, f) refl
-
-  -- any other row
-  module _ (stands : Bool) where
-    pub add_preceded : before.same ≡ true → Drops ≡ add_decided stands before behind
-    unfolding add_decided
-    add_preceded e = cases stands (λ s. rw (e, s) refl) (λ s. rw (e, s) refl)
-
-    pub add_alone : before.same ≡ false → behind.same ≡ false → Settles ≡ add_decided stands before behind
-    unfolding add_decided
-    add_alone e f = rw (e, f) refl
-
-    pub add_with_remove : before.same ≡ false → behind.same ≡ true → stands ≡ true → behind.adds ≡ false → behind.settled ≡ true → DropsBoth ≡ add_decided stands before behind
-    unfolding add_decided
-    add_with_remove e f s a d = rw (e, f, s, a, d) refl
-
-    pub add_by_unsettled : before.same ≡ false → behind.same ≡ true → stands ≡ true → behind.adds ≡ false → behind.settled ≡ false → Drops ≡ add_decided stands before behind
-    unfolding add_decided
-    add_by_unsettled e f s a d = rw (e, f, s, a, d) refl
-
-    pub add_by_add : before.same ≡ false → behind.same ≡ true → stands ≡ true → behind.adds ≡ true → Drops ≡ add_decided stands before behind
-    unfolding add_decided
-    add_by_add e f s a = rw (e, f, s, a) refl
-
-    pub add_followed : before.same ≡ false → behind.same ≡ true → stands ≡ false → Drops ≡ add_decided stands before behind
-    unfolding add_decided
-    add_followed e f s = rw (e, f, s) refl
-
-  -- either
-  module _ (kind code : ℕ) (stands : Bool) (e : stands ≡ removes_stand kind) (step : Step) where
-    pub decided_remove : stands ≡ true → (code ≡ 1 → ⊥) → step ≡ remove_decided before behind → step ≡ decided kind code before behind
-    unfolding decided
-    decided_remove s c f = rw (sym e ∙ s, ne_eqb code 1 c) f
-
-    pub decided_add : stands ≡ true → code ≡ 1 → step ≡ add_decided true before behind → step ≡ decided kind code before behind
-    unfolding decided
-    decided_add s c f = rw (sym e ∙ s, eq-eqb code 1 c) f
-
-    pub decided_other : stands ≡ false → step ≡ add_decided false before behind → step ≡ decided kind code before behind
-    unfolding decided
-    decided_other s f = rw (sym e ∙ s) f
+use Rattle.settling_step.specs.Standing.{seen}
+use Rattle.settling_step.specs.Stepping.{beside, beside_next, beside_last}
 
 -- a row is due
 module _ (row low : List ℕ) where
-  pub due_not : get_or row 4 0 ≡ 0 → false ≡ due low (row_of row)
+  pub due_not : get_or row 4 0 ≡ 0 → not (eqb (get_or row 4 0) 0) ≡ due low (row_of row)
   unfolding due
   due_not e = rw (eq-eqb (get_or row 4 0) 0 e) refl
 
@@ -95,10 +36,18 @@ module _ (row low : List ℕ) where
       rw (ne_eqb (get_or row 4 0) 0 n) (e ∙ rw q refl)
 
 -- one row beside another
-pub is_beside : (row other : List ℕ) (r : Bool) → 7 ≤ length row → 7 ≤ length other → ((i : ℕ) → Fits w32 (get_or row i 0)) → ((i : ℕ) → Fits w32 (get_or other i 0)) → r ≡ same (take 3 row) (take 3 other) →
-    record { same = r; adds = eqb (get_or other 3 0) 1; settled = eqb (get_or other 4 0) 0 } ≡ beside (row_of row).operation (row_of other)
-unfolding beside
-is_beside row other r a b f g e = rw (e, same_words row other a b (omega (arith, f 2)) (omega (arith, g 2))) refl
+module _ (row other : List ℕ) (r : Bool) (a : 7 ≤ length row) (b : 7 ≤ length other) (f : (i : ℕ) → Fits w32 (get_or row i 0)) (g : (i : ℕ) → Fits w32 (get_or other i 0)) (e : r ≡ same (take 3 row) (take 3 other)) where
+  beside_is : (beside (row_of row).operation (row_of other)).same ≡ r
+  unfolding beside
+  beside_is = sym (e ∙ same_words row other a b (omega (arith, f 2)) (omega (arith, g 2)))
+
+  pub is_beside : r ≡ true → Some (record { adds = eqb (get_or other 3 0) 1; settled = eqb (get_or other 4 0) 0 }) ≡ seen (beside (row_of row).operation (row_of other))
+  unfolding beside
+  is_beside t = rw (beside_is ∙ t) refl
+
+  pub not_beside : r ≡ false → None ≡ seen (beside (row_of row).operation (row_of other))
+  unfolding beside
+  not_beside t = rw (beside_is ∙ t) refl
 
 -- what stands before and behind a row, in words
 pub pieces_last : (w k : ℕ) (s : List ℕ) → pieces w (suc k) s ≡ pieces w k s ++ (take w (drop (k * w) s) ∷ [])
@@ -117,30 +66,30 @@ pub map_last : (l : List (List ℕ)) (x : List ℕ) → map row_of (l ++ (x ∷ 
 map_last [] x = refl
 map_last (y ∷ l) x = ap (λ (m : List Row). row_of y ∷ m) (map_last l x)
 
-module _ (s : List ℕ) (w at : ℕ) (n : Neighbour) where
+module _ (s : List ℕ) (w at : ℕ) (n : Option Neighbour) where
   abbrev u : Operation
   u = (row_of (take w (drop at s))).operation
 
   q : at + w - at ≡ w
   q = omega arith
 
-  pub before_nothing : (left : ℕ) → left ≡ 0 → n ≡ nobody → n ≡ beside_last u (map row_of (pieces w left s))
+  pub before_nothing : (left : ℕ) → left ≡ 0 → n ≡ None → n ≡ seen (beside_last u (map row_of (pieces w left s)))
   unfolding beside_last
   before_nothing left e f = rw e f
 
-  pub before_last : (left m : ℕ) → (left ≡ 0 → ⊥) → m ≡ left → n ≡ beside (row_of (take (at + w - at) (drop at s))).operation (row_of (take (m * w - (m * w - w)) (drop (m * w - w) s))) → n ≡ beside_last u (map row_of (pieces w left s))
+  pub before_last : (left m : ℕ) → (left ≡ 0 → ⊥) → m ≡ left → n ≡ seen (beside (row_of (take (at + w - at) (drop at s))).operation (row_of (take (m * w - (m * w - w)) (drop (m * w - w) s)))) → n ≡ seen (beside_last u (map row_of (pieces w left s)))
   before_last zero m e g f = absurd (e refl)
   before_last (suc left) m e g f =
       let many : m * w ≡ left * w + w = ap (λ (k : ℕ). k * w) g ∙ omega (arith, suc-mul left w) in
       let p : m * w - (m * w - w) ≡ w = omega (arith, many) in
       let r : m * w - w ≡ left * w = omega (arith, many) in
-      f ∙ rw (q, p, r) (sym (ap (beside_last u) (ap (map row_of) (pieces_last w left s) ∙ map_last (pieces w left s) (take w (drop (left * w) s))) ∙ last_beside u (map row_of (pieces w left s)) (row_of (take w (drop (left * w) s)))))
+      f ∙ rw (q, p, r) (ap seen (sym (ap (beside_last u) (ap (map row_of) (pieces_last w left s) ∙ map_last (pieces w left s) (take w (drop (left * w) s))) ∙ last_beside u (map row_of (pieces w left s)) (row_of (take w (drop (left * w) s))))))
 
-  pub behind_nothing : (more : ℕ) → more ≡ 0 → n ≡ nobody → n ≡ beside_next u (map row_of (pieces w more (drop (at + w) s)))
+  pub behind_nothing : (more : ℕ) → more ≡ 0 → n ≡ None → n ≡ seen (beside_next u (map row_of (pieces w more (drop (at + w) s))))
   unfolding beside_next
   behind_nothing more e f = rw e f
 
-  pub behind_next : (more : ℕ) → (more ≡ 0 → ⊥) → n ≡ beside (row_of (take (at + w - at) (drop at s))).operation (row_of (take (at + w + w - (at + w)) (drop (at + w) s))) → n ≡ beside_next u (map row_of (pieces w more (drop (at + w) s)))
+  pub behind_next : (more : ℕ) → (more ≡ 0 → ⊥) → n ≡ seen (beside (row_of (take (at + w - at) (drop at s))).operation (row_of (take (at + w + w - (at + w)) (drop (at + w) s)))) → n ≡ seen (beside_next u (map row_of (pieces w more (drop (at + w) s))))
   unfolding beside_next
   behind_next zero e f = absurd (e refl)
   behind_next (suc more) e f = let p : at + w + w - (at + w) ≡ w = omega arith in f ∙ rw (q, p) refl

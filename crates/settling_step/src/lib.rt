@@ -6,22 +6,22 @@ ghost use Rattle.meaning.specs.Settling.{due};
 ghost use Rattle.words_layout.specs.Words.{pieces};
 ghost use Rattle.words_layout.specs.Layout.{row_of, row_width};
 ghost use Rattle.table_insert.specs.Placing.{key_words};
-ghost use Rattle.settling_step.specs.Stepping.{add_decided, beside, beside_last, beside_next, decided, nobody, remove_decided, step_for};
+ghost use Rattle.settling_step.specs.Standing.{seen, stands_as};
+ghost use Rattle.settling_step.specs.Stepping.{add_decided, beside, beside_last, beside_next, decided, remove_decided, step_for};
 ghost use Rattle.settling_step.specs.Held.{Held, kind_at, rows_from};
 ghost use Rattle.meaning.specs.Table.{greatest_size};
 
 use words_tags::RowCount;
 
-// What stands beside a row: whether it is of the same value, whether it adds, and whether it is settled; all false where nothing stands.
-#[derive(Clone, Copy)]
+// A row of the same value beside a row: whether it adds, and whether it is settled.
+#[derive(Clone, Copy, Debug, PartialEq, Eq)]
 pub struct Neighbour {
-    pub same: bool,
     pub adds: bool,
     pub settled: bool,
 }
 
 // What becomes of a row: it is kept as it is, it becomes settled, it is dropped, or it is dropped and a settled remove behind it as well.
-#[derive(Clone, Copy)]
+#[derive(Clone, Copy, Debug, PartialEq, Eq)]
 pub enum Step {
     Keeps,
     Settles,
@@ -34,45 +34,36 @@ fn is_due(row: &[u32], low: &[u32]) -> bool
     requires { length row.now ≡ row_width (length low.now) }
     ensures { result ≡ due low.now (row_of row.now) }
 {
-    if row[words_layout::UNSETTLED_AT] == 0 {
-        return false;
-    }
-    words_tags::at_most(&row[words_layout::VECTOR_AT..], low)
+    row[words_layout::UNSETTLED_AT] != 0
+        && words_tags::at_most(&row[words_layout::VECTOR_AT..], low)
 }
 
-// Nothing beside a row.
-fn no_neighbour() -> Neighbour
-    ensures { result ≡ nobody }
-{
-    Neighbour {
-        same: false,
-        adds: false,
-        settled: false,
-    }
-}
-
-// A row as the neighbour of another.
-fn compared(row: &[u32], other: &[u32]) -> Neighbour
+// A row as the neighbour of another, where it is of the same value.
+fn compared(row: &[u32], other: &[u32]) -> Option<Neighbour>
     requires { (key_words ≤ length row.now) × (key_words ≤ length other.now) }
-    ensures { result ≡ beside (row_of row.now).operation (row_of other.now) }
+    ensures { result ≡ seen (beside (row_of row.now).operation (row_of other.now)) }
 {
-    Neighbour {
-        same: words_tags::same(
-            &row[words_layout::OBJECT_AT..words_layout::CODE_AT],
-            &other[words_layout::OBJECT_AT..words_layout::CODE_AT],
-        ),
-        adds: other[words_layout::CODE_AT] == table_kinds::ADDS,
-        settled: other[words_layout::UNSETTLED_AT] == 0,
+    let same = words_tags::same(
+        &row[words_layout::OBJECT_AT..words_layout::CODE_AT],
+        &other[words_layout::OBJECT_AT..words_layout::CODE_AT],
+    );
+    if same {
+        Some(Neighbour {
+            adds: other[words_layout::CODE_AT] == table_kinds::ADDS,
+            settled: other[words_layout::UNSETTLED_AT] == 0,
+        })
+    } else {
+        None
     }
 }
 
 // What stands before the row at a place: the last of so many rows kept at the front.
-fn before(rows: &[u32], width: usize, at: usize, left: RowCount) -> Neighbour
+fn before(rows: &[u32], width: usize, at: usize, left: RowCount) -> Option<Neighbour>
     requires { (key_words ≤ width) × (left.0 * width ≤ at) × (at + width ≤ length rows.now) }
-    ensures { result ≡ beside_last (row_of (take width (drop at rows.now))).operation (map row_of (pieces width left.0 rows.now)) }
+    ensures { result ≡ seen (beside_last (row_of (take width (drop at rows.now))).operation (map row_of (pieces width left.0 rows.now))) }
 {
     if left.0 == 0 {
-        return no_neighbour();
+        return None;
     }
     let end = at + width;
     let to = words_tags::wide(left.0) * width;
@@ -80,12 +71,12 @@ fn before(rows: &[u32], width: usize, at: usize, left: RowCount) -> Neighbour
 }
 
 // What stands behind the row at a place, where so many rows follow it.
-fn behind(rows: &[u32], width: usize, at: usize, more: RowCount) -> Neighbour
+fn behind(rows: &[u32], width: usize, at: usize, more: RowCount) -> Option<Neighbour>
     requires { (key_words ≤ width) × (at + width + more.0 * width ≤ length rows.now) × (at + width ≤ length rows.now) }
-    ensures { result ≡ beside_next (row_of (take width (drop at rows.now))).operation (map row_of (pieces width more.0 (drop (at + width) rows.now))) }
+    ensures { result ≡ seen (beside_next (row_of (take width (drop at rows.now))).operation (map row_of (pieces width more.0 (drop (at + width) rows.now)))) }
 {
     if more.0 == 0 {
-        return no_neighbour();
+        return None;
     }
     let next = at + width;
     let end = next + width;
@@ -93,52 +84,39 @@ fn behind(rows: &[u32], width: usize, at: usize, more: RowCount) -> Neighbour
 }
 
 // What becomes of a remove where removes stand: it is settled if adds are all that stands beside it.
-fn remove_step(before: Neighbour, behind: Neighbour) -> Step
-    ensures { result ≡ remove_decided before behind }
+#[tactic(auto, unfolding(crate::specs::Stepping::remove_decided))]
+fn remove_step(before: Option<Neighbour>, behind: Option<Neighbour>) -> Step
+    ensures { result ≡ remove_decided (stands_as before) (stands_as behind) }
 {
-    if behind.same {
-        return Step::Drops;
+    match (before, behind) {
+        (Some(before), None) if before.adds => Step::Settles,
+        _ => Step::Drops,
     }
-    if before.same {
-        if before.adds {
-            return Step::Settles;
-        }
-    }
-    Step::Drops
 }
 
 // What becomes of any other row: it is settled if nothing stands beside it, and where removes stand the last add takes a settled remove along.
-fn add_step(stands: bool, before: Neighbour, behind: Neighbour) -> Step
-    ensures { result ≡ add_decided stands before behind }
+#[tactic(auto, unfolding(crate::specs::Stepping::add_decided))]
+fn add_step(stands: bool, before: Option<Neighbour>, behind: Option<Neighbour>) -> Step
+    ensures { result ≡ add_decided stands (stands_as before) (stands_as behind) }
 {
-    if before.same {
-        return Step::Drops;
+    match (before, behind) {
+        (None, None) => Step::Settles,
+        (None, Some(behind)) if stands && !behind.adds && behind.settled => Step::DropsBoth,
+        _ => Step::Drops,
     }
-    if behind.same {
-        if stands {
-            if behind.adds {
-                return Step::Drops;
-            }
-            if behind.settled {
-                return Step::DropsBoth;
-            }
-        }
-        return Step::Drops;
-    }
-    Step::Settles
 }
 
 // What becomes of a row of this kind and code.
-fn decide(kind: u32, code: u32, before: Neighbour, behind: Neighbour) -> Step
-    ensures { result ≡ decided kind code before behind }
+#[tactic(auto, unfolding(crate::specs::Stepping::decided))]
+fn decide(kind: u32, code: u32, before: Option<Neighbour>, behind: Option<Neighbour>) -> Step
+    ensures { result ≡ decided kind code (stands_as before) (stands_as behind) }
 {
-    if table_kinds::removes_stand(kind) {
-        if code == table_kinds::ADDS {
-            return add_step(true, before, behind);
-        }
-        return remove_step(before, behind);
+    let stands = table_kinds::removes_stand(kind);
+    if stands && code != table_kinds::ADDS {
+        remove_step(before, behind)
+    } else {
+        add_step(stands, before, behind)
     }
-    add_step(false, before, behind)
 }
 
 // What becomes of the row at a place: it is kept unless it is due. So many rows are kept at the front, and so many follow it.
@@ -161,7 +139,8 @@ pub fn step_for(
         let kind = table_kinds::kind_of(kinds, rows[at]);
         let above = before(rows, width, at, left);
         let below = behind(rows, width, at, more);
-        return decide(kind, rows[at + words_layout::CODE_AT], above, below);
+        decide(kind, rows[at + words_layout::CODE_AT], above, below)
+    } else {
+        Step::Keeps
     }
-    Step::Keeps
 }

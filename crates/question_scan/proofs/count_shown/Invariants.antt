@@ -1,9 +1,9 @@
+use Rattle.std.proofs.Common.{◌≡◌, ◌≤◌, ◌+◌, ◌-◌, ◌*◌, map, drop}
+use Rattle.words_layout.specs.Words.{pieces}
+use Rattle.words_layout.specs.Layout.{row_of}
 use Rattle.question_scan.specs.Showing.{count_shown}
-use Rattle.question_scan.proofs.Scanning.{Passing}
 use Rattle.question_scan.proofs.count_shown.Given as goal
 
-abbrev pub invariant-loop-more : goal.invariant-loop-more
-invariant-loop-more l = Passing l.rows l.width 0 l.initial.more (count_shown l.object) l.at l.more l.found
-
-abbrev pub decreases-loop-more : goal.decreases-loop-more
-decreases-loop-more l = l.more
+abbrev pub invariant-loop-i : goal.invariant-loop-i
+invariant-loop-i l =
+    (l.found ≤ l.i) × (count_shown l.object (map row_of (pieces l.width l.count.0 l.rows)) ≡ l.found + count_shown l.object (map row_of (pieces l.width (l.count.0 - l.i) (drop (l.i * l.width) l.rows))))

@@ -1,22 +1,14 @@
-use Rattle.question_scan.proofs.Scanning.{other_object, no_add, last_shows, key_fits, next_room, by_key}
-use native.Mathlib.Omega.{arith}
-use borrow.Author.Rules.{rules}
+use Rattle.std.proofs.Common.{sym, ◌∙◌}
+use borrow.Author.Tests.{eqb-true}
+use Rattle.question_scan.proofs.Scanning.{other_object, no_add_there, last_shows, by_key}
 use Rattle.question_scan.proofs.shows_at.Goals as goal
-
-pub returns-then-rows-at : goal.returns-then-rows-at
-returns-then-rows-at c = search other_object
-
-pub returns-then-rows-at-ne-ADDS : goal.returns-then-rows-at-ne-ADDS
-returns-then-rows-at-ne-ADDS c = search no_add
+use Rattle.question_scan.proofs.shows_at.Goals.{then-rows-at, else-rows-at}
 
 pub returns-then-more-eq1 : goal.returns-then-more-eq1
-returns-then-more-eq1 c = search last_shows
+returns-then-more-eq1 c = elim c.if-rows-at.branch [ then-rows-at w ↦ search last_shows | else-rows-at w ↦ absurd (w.if-rows-at.false (eqb-true _ _ (sym w.value-is ∙ c.if-rows-at-eq-ADDS.true))) ]
 
-pub overflow_add-at-2 : goal.overflow_add-at-2
-overflow_add-at-2 c = search (key_fits, arith)
+pub returns-else-more-eq1 : goal.returns-else-more-eq1
+returns-else-more-eq1 c = elim c.if-rows-at.branch [ then-rows-at w ↦ search by_key | else-rows-at w ↦ absurd (w.if-rows-at.false (eqb-true _ _ (sym w.value-is ∙ c.if-rows-at-eq-ADDS.true))) ]
 
-pub differ-requires : goal.differ-requires
-differ-requires c = (search rules, search next_room)
-
-pub returns : goal.returns
-returns c = search by_key
+pub returns-else-rows-at-eq-ADDS : goal.returns-else-rows-at-eq-ADDS
+returns-else-rows-at-eq-ADDS c = elim c.if-rows-at.branch [ then-rows-at w ↦ search no_add_there | else-rows-at w ↦ w.value-is ∙ search other_object ]

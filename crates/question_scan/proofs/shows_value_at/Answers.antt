@@ -1,15 +1,11 @@
+use Rattle.std.proofs.Common.{sym, ◌∙◌}
+use borrow.Author.Tests.{eqb-true}
 use Rattle.question_scan.proofs.Scanning.{too_high, other_low, that_value}
-use borrow.Author.Rules.{rules}
 use Rattle.question_scan.proofs.shows_value_at.Goals as goal
-
-pub returns-then-rows-at-ne-NO_HIGH : goal.returns-then-rows-at-ne-NO_HIGH
-returns-then-rows-at-ne-NO_HIGH c = search too_high
+use Rattle.question_scan.proofs.shows_value_at.Goals.{then-rows-at-eq-NO_HIGH, else-rows-at-eq-NO_HIGH}
 
 pub returns-then-rows-at : goal.returns-then-rows-at
-returns-then-rows-at c = search other_low
+returns-then-rows-at c = elim c.if-rows-at-eq-NO_HIGH.branch [ then-rows-at-eq-NO_HIGH w ↦ search that_value | else-rows-at-eq-NO_HIGH w ↦ absurd (w.if-rows-at-eq-NO_HIGH.false (eqb-true _ _ (sym w.value-is ∙ c.if-rows-at.true))) ]
 
-pub shows_at-requires : goal.shows_at-requires
-shows_at-requires c = (search rules, search rules, search rules, search rules)
-
-pub returns : goal.returns
-returns c = search that_value
+pub returns-else-rows-at : goal.returns-else-rows-at
+returns-else-rows-at c = elim c.if-rows-at-eq-NO_HIGH.branch [ then-rows-at-eq-NO_HIGH w ↦ search other_low | else-rows-at-eq-NO_HIGH w ↦ w.value-is ∙ search too_high ]

@@ -1,8 +1,9 @@
-use Rattle.question_scan.proofs.Scanning.{Seeking}
+use Rattle.std.proofs.Common.{◌≡◌, ◌-◌, ◌*◌, map, drop}
+use Rattle.words_layout.specs.Words.{pieces}
+use Rattle.words_layout.specs.Layout.{row_of}
+use Rattle.question_scan.specs.Showing.{value_shown}
 use Rattle.question_scan.proofs.value_shown.Given as goal
 
-abbrev pub invariant-loop-more : goal.invariant-loop-more
-invariant-loop-more l = Seeking l.rows l.width l.initial.more l.object l.value.0 l.at l.more
-
-abbrev pub decreases-loop-more : goal.decreases-loop-more
-decreases-loop-more l = l.more
+abbrev pub invariant-loop-i : goal.invariant-loop-i
+invariant-loop-i l =
+    value_shown l.object l.value.0 (map row_of (pieces l.width l.count.0 l.rows)) ≡ value_shown l.object l.value.0 (map row_of (pieces l.width (l.count.0 - l.i) (drop (l.i * l.width) l.rows)))

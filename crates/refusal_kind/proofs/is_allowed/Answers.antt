@@ -1,8 +1,5 @@
-use Rattle.refusal_kind.proofs.Allowances.{allowed_value, allowed_code}
+use Rattle.refusal_kind.proofs.Allowances.{code_unknown}
 use Rattle.refusal_kind.proofs.is_allowed.Goals as goal
 
-pub returns-then-code_allowed : goal.returns-then-code_allowed
-returns-then-code_allowed c = search allowed_value
-
-pub returns : goal.returns
-returns c = search allowed_code
+pub returns-in_default : goal.returns-in_default
+returns-in_default c = code_unknown _ _ _ c.in_default.field-0-0 c.in_default.ensures c.in_default.ensures'.1

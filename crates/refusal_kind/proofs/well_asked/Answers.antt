@@ -1,14 +1,10 @@
-use Rattle.refusal_kind.proofs.Allowances.{asked_none, asked_unknown, asked_holds, asked_plain}
+use Rattle.std.proofs.Common.{rules}
+use Rattle.meaning.specs.Tests.{between}
+use Rattle.meaning.specs.Operations.{value_allowed}
+use Rattle.meaning.specs.Questions.{fits}
+use Rattle.meaning.specs.Refusals.{well_asked}
 use Rattle.refusal_kind.proofs.well_asked.Goals as goal
 
-pub returns-then-question-lt-ASKS_TOTAL : goal.returns-then-question-lt-ASKS_TOTAL
-returns-then-question-lt-ASKS_TOTAL c = search asked_none
-
-pub returns-then-question-gt-ASKS_HOLDS : goal.returns-then-question-gt-ASKS_HOLDS
-returns-then-question-gt-ASKS_HOLDS c = search asked_unknown
-
-pub returns-then-question-eq-ASKS_HOLDS : goal.returns-then-question-eq-ASKS_HOLDS
-returns-then-question-eq-ASKS_HOLDS c = search asked_holds
-
-pub returns : goal.returns
-returns c = search asked_plain
+pub returns-in-Ok : goal.returns-in-Ok
+unfolding between value_allowed fits well_asked
+returns-in-Ok c = search rules

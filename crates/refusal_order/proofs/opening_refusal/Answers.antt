@@ -1,15 +1,18 @@
-use borrow.Author.Tests.{not-true, not-false}
 use Rattle.refusal_order.proofs.Chains.{opening_few, opening_small, opening_range, opening_space, opening_passes}
 use Rattle.refusal_order.proofs.opening_refusal.Goals as goal
-
-pub returns-then-not-header_ok : goal.returns-then-not-header_ok
-returns-then-not-header_ok c = search (opening_range, not-true)
+use Rattle.refusal_order.proofs.opening_refusal.Goals.{then-header_ok, else-header_ok}
 
 pub space_for-requires : goal.space_for-requires
-space_for-requires c = (search (opening_few, not-false), search (opening_small, not-false))
+space_for-requires c = (search opening_few, search opening_small)
 
-pub returns-then-space-space_for : goal.returns-then-space-space_for
-returns-then-space-space_for c = search (opening_space, not-false)
+pub returns-then-fits : goal.returns-then-fits
+returns-then-fits c = elim c.if-header_ok.branch [
+  | then-header_ok w ↦ search opening_passes
+  | else-header_ok w ↦ cc
+]
 
-pub returns : goal.returns
-returns c = search (opening_passes, not-false)
+pub returns-else-fits : goal.returns-else-fits
+returns-else-fits c = elim c.if-header_ok.branch [
+  | then-header_ok w ↦ search opening_space
+  | else-header_ok w ↦ search opening_range
+]

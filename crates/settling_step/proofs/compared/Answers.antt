@@ -1,5 +1,8 @@
-use Rattle.settling_step.proofs.Testing.{is_beside}
+use Rattle.settling_step.proofs.Testing.{is_beside, not_beside}
 use Rattle.settling_step.proofs.compared.Goals as goal
 
-pub returns : goal.returns
-returns c = search is_beside
+pub returns-then-same : goal.returns-then-same
+returns-then-same c = search is_beside
+
+pub returns-else-same : goal.returns-else-same
+returns-else-same c = search not_beside

@@ -4,5 +4,5 @@ use Rattle.settling_step.proofs.step_for.Goals as goal
 pub returns-then-is_due : goal.returns-then-is_due
 returns-then-is_due c = search step_decided
 
-pub returns : goal.returns
-returns c = search step_kept
+pub returns-else-is_due : goal.returns-else-is_due
+returns-else-is_due c = search step_kept

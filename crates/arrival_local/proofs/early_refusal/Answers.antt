@@ -1,5 +1,5 @@
 use Rattle.arrival_local.proofs.Issuing.{early_is}
-use Rattle.arrival_local.proofs.early_number.Goals as goal
+use Rattle.arrival_local.proofs.early_refusal.Goals as goal
 
 pub returns : goal.returns
 returns c = search early_is
