@@ -23,9 +23,9 @@ use Rattle.table_rules.proofs.Heading.{Sizes, sizes_in, sizes_out}
 use Rattle.table_rules_clock.specs.ClockTests.{last_kept, total_kept}
 use Rattle.line_hex.specs.Choice.{pick}
 use Rattle.line_read.specs.declared.Row.{Row}
-use Rattle.line_read.specs.SavedNamed.{clock_read, closing_read, last_read, row_read, total_read}
+use Rattle.line_read.specs.SavedNamed.{clock_read, closing_read, is_clock, is_closing, is_last, is_row, is_total, last_read, row_read, total_read}
 use Rattle.line_read.proofs.Vectors.{clock_vector, last_vector_lem, row_vector}
-use Rattle.line_read.specs.Named.{opening_read}
+use Rattle.line_read.specs.Named.{opening_read, is_opening}
 use Rattle.line_decode.specs.Decoding.{bytes_of, type_of}
 use Rattle.line_decode.specs.LineKinds.{kind_of}
 use Rattle.call_checked.specs.declared.Opened.{Opened}
@@ -247,7 +247,7 @@ module _ (s : List ℕ) (u : under_load s ≡ true) where
   line_on_lem next.Clock e bytes =
       let f = clock_read (size_in s) bytes in
       let H₀ : LoadHead s = load_head s u in
-      took_or_on (subst Ready e tt) f.ok clock_at (take (size_in s) f.vector) (omega arith)
+      took_or_on (subst Ready e tt) (is_clock (size_in s) bytes) clock_at (take (size_in s) f.vector) (omega arith)
       (λ t. omega (arith, H₀.room, length-take-le (size_in s) f.vector (omega (arith, clock_vector bytes (size_in s) f refl, H₀.few))))
   line_on_lem (next.Last station) e bytes =
       let f = last_read (size_in s) bytes in
@@ -255,19 +255,19 @@ module _ (s : List ℕ) (u : under_load s ≡ true) where
       let vector = take (size_in s) f.vector in
       let below : station.0 < size_in s = load_station s u (next.Last station) e station refl in
       let area : suc station.0 * size_in s ≤ size_in s * size_in s = mul-le-mul_right (size_in s) below in
-      took_or_on (subst Ready e tt) (f.ok && (eqb f.station station.0 && last_kept (own_in s) (clock_in s) station.0 vector)) (last_at (size_in s) + station.0 * size_in s) vector (omega arith)
+      took_or_on (subst Ready e tt) (is_last (size_in s) bytes && (eqb f.station station.0 && last_kept (own_in s) (clock_in s) station.0 vector)) (last_at (size_in s) + station.0 * size_in s) vector (omega arith)
       (λ t. omega (arith, H₀.room, area, suc-mul station.0 (size_in s), length-take-le (size_in s) f.vector (omega (arith, last_vector_lem bytes (size_in s) f refl, H₀.few))))
   line_on_lem (next.Total object) e bytes =
       let f = total_read bytes in
       let total : List ℕ = f.high ∷ f.low ∷ [] in
       let H₀ : LoadHead s = load_head s u in
       let below : object < objects_in s = load_object s u (next.Total object) e object refl in
-      took_or_on (subst Ready e tt) (f.ok && (eqb f.object object && total_kept (total_bound (clock_in s)) (get_or (kinds_in s) object 0) (total_of_words total))) (totals_at + object * 2) total (omega arith)
+      took_or_on (subst Ready e tt) (is_total bytes && (eqb f.object object && total_kept (total_bound (clock_in s)) (get_or (kinds_in s) object 0) (total_of_words total))) (totals_at + object * 2) total (omega arith)
       (λ t. omega (arith, H₀.long, H₀.objects, below))
   line_on_lem next.Rows e bytes =
       let f = row_read (size_in s) bytes in
-      either_on f.ok (row_taken f s) (closed bytes s) (λ t. row_on (sym e) f (row_vector bytes (size_in s) f refl))
-      (either_on ((closing_read bytes).ok && eqb (closing_read bytes).rows (count_in s)) (finished s) (spoilt s) (λ t. finished_on) spoilt_on)
+      either_on (is_row (size_in s) bytes) (row_taken f s) (closed bytes s) (λ t. row_on (sym e) f (row_vector bytes (size_in s) f refl))
+      (either_on (is_closing bytes && eqb (closing_read bytes).rows (count_in s)) (finished s) (spoilt s) (λ t. finished_on) spoilt_on)
   line_on_lem next.Nothing e bytes = spoilt_on
 
 -- an opening line that is taken
@@ -317,7 +317,7 @@ module _ (line s : List ℕ) where
 
   begun_on : GoesOn (begun (opened_by line s))
   unfolding opened_by begun
-  begun_on = by (opening_read (bytes_of line)).ok (opened_as s (meaning.open_table (length s) (space_for header_of_lem.size header_of_lem.capacity) header_of_lem)) opened_on
+  begun_on = by (is_opening (bytes_of line)) (opened_as s (meaning.open_table (length s) (space_for header_of_lem.size header_of_lem.capacity) header_of_lem)) opened_on
     where
       by : (b : Bool) (p : Opened × List ℕ) → GoesOn (begun p) → GoesOn (begun (pick b p (opening.Refused 1, s)))
       by true p h = h

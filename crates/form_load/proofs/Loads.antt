@@ -10,7 +10,7 @@ use Rattle.meaning.specs.Calls as meaning
 use Rattle.words_layout.specs.Layout.{holds_table, space_for, words_of}
 use Rattle.line_hex.specs.Choice.{pick}
 use Rattle.words_tags.specs.declared.Station.{Station}
-use Rattle.line_read.specs.Named.{opening_read}
+use Rattle.line_read.specs.Named.{opening_read, is_opening}
 use Rattle.line_decode.specs.Decoding.{bytes_of, decoded_into, type_of}
 use Rattle.line_decode.specs.LineKinds.{kind_of}
 use Rattle.line_decode.specs.declared.LineKind.{LineKind}
@@ -72,7 +72,7 @@ opened_headed s (meaning.Opening.fresh table) = fresh_headed table (drop (space_
 
 begins_headed : (line s : List ℕ) → Headed (opened_by line s)
 unfolding opened_by
-begins_headed line s = by (opening_read (bytes_of line)).ok (opened_as s (meaning.open_table (length s) (space_for (header_read (bytes_of line)).size (header_read (bytes_of line)).capacity) (header_read (bytes_of line)))) (opened_headed s (meaning.open_table (length s) (space_for (header_read (bytes_of line)).size (header_read (bytes_of line)).capacity) (header_read (bytes_of line))))
+begins_headed line s = by (is_opening (bytes_of line)) (opened_as s (meaning.open_table (length s) (space_for (header_read (bytes_of line)).size (header_read (bytes_of line)).capacity) (header_read (bytes_of line)))) (opened_headed s (meaning.open_table (length s) (space_for (header_read (bytes_of line)).size (header_read (bytes_of line)).capacity) (header_read (bytes_of line))))
   where
     by : (b : Bool) (p : Opened × List ℕ) → Headed p → Headed (pick b p (opened.Refused 1, s))
     by true p h = h

@@ -13,9 +13,9 @@ use Rattle.table_rules.specs.TableTests.{clock_in, kinds_in}
 use Rattle.table_rules.proofs.Holding.{table_headed}
 use Rattle.table_rules_clock.specs.ClockTests.{last_kept, total_kept}
 use Rattle.line_hex.specs.Choice.{pick}
-use Rattle.line_read.specs.Named.{opening_read}
+use Rattle.line_read.specs.Named.{opening_read, is_opening}
 use Rattle.line_read.specs.declared.Row.{Row}
-use Rattle.line_read.specs.SavedNamed.{clock_read, closing_read, last_read, row_read, total_read}
+use Rattle.line_read.specs.SavedNamed.{clock_read, closing_read, is_clock, is_closing, is_last, is_row, is_total, last_read, row_read, total_read}
 use Rattle.line_decode.specs.Decoding.{bytes_of, type_of}
 use Rattle.line_decode.specs.LineKinds.{kind_of}
 use Rattle.call_checked.specs.declared.Opened.{Opened}
@@ -69,24 +69,24 @@ module _ (s : List ℕ) where
 
   closed_kept : (bytes : List ℕ) → Kept s (closed bytes s)
   unfolding closed
-  closed_kept bytes = either ((closing_read bytes).ok && eqb (closing_read bytes).rows (count_in s)) (finished s) (spoilt s) finished_kept spoilt_kept
+  closed_kept bytes = either (is_closing bytes && eqb (closing_read bytes).rows (count_in s)) (finished s) (spoilt s) finished_kept spoilt_kept
 
   line_kept : (n : Next) (bytes : List ℕ) → Kept s (taken_as n bytes s)
   unfolding taken_as clock_taken last_taken total_taken row_or_closing
   line_kept next.Clock bytes =
       let f = clock_read (size_in s) bytes in
-      took_or_spoilt f.ok clock_at (take (size_in s) f.vector)
+      took_or_spoilt (is_clock (size_in s) bytes) clock_at (take (size_in s) f.vector)
   line_kept (next.Last station) bytes =
       let f = last_read (size_in s) bytes in
       let vector = take (size_in s) f.vector in
-      took_or_spoilt (f.ok && (eqb f.station station.0 && last_kept (own_in s) (clock_in s) station.0 vector)) (last_at (size_in s) + station.0 * size_in s) vector
+      took_or_spoilt (is_last (size_in s) bytes && (eqb f.station station.0 && last_kept (own_in s) (clock_in s) station.0 vector)) (last_at (size_in s) + station.0 * size_in s) vector
   line_kept (next.Total object) bytes =
       let f = total_read bytes in
       let total : List ℕ = f.high ∷ f.low ∷ [] in
-      took_or_spoilt (f.ok && (eqb f.object object && total_kept (total_bound (clock_in s)) (get_or (kinds_in s) object 0) (total_of_words total))) (totals_at + object * 2) total
+      took_or_spoilt (is_total bytes && (eqb f.object object && total_kept (total_bound (clock_in s)) (get_or (kinds_in s) object 0) (total_of_words total))) (totals_at + object * 2) total
   line_kept next.Rows bytes =
       let f = row_read (size_in s) bytes in
-      either f.ok (row_taken f s) (closed bytes s) (row_kept_lem f) (closed_kept bytes)
+      either (is_row (size_in s) bytes) (row_taken f s) (closed bytes s) (row_kept_lem f) (closed_kept bytes)
   line_kept next.Nothing bytes = spoilt_kept
 
 -- no load under way: a refusal changes nothing, and no table comes
@@ -103,7 +103,7 @@ module _ (line s : List ℕ) where
 
   begun_left : Left s (begun (opened_by line s))
   unfolding opened_by begun
-  begun_left = by (opening_read (bytes_of line)).ok (opened_as s (meaning.open_table (length s) (space_for (header_read (bytes_of line)).size (header_read (bytes_of line)).capacity) (header_read (bytes_of line))))
+  begun_left = by (is_opening (bytes_of line)) (opened_as s (meaning.open_table (length s) (space_for (header_read (bytes_of line)).size (header_read (bytes_of line)).capacity) (header_read (bytes_of line))))
       (opened_left (meaning.open_table (length s) (space_for (header_read (bytes_of line)).size (header_read (bytes_of line)).capacity) (header_read (bytes_of line))))
     where
       by : (b : Bool) (p : Opened × List ℕ) → Left s (begun p) → Left s (begun (pick b p (opened.Refused 1, s)))

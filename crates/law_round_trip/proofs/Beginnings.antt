@@ -25,7 +25,7 @@ use Rattle.line_shape.specs.Shapes.{Fitting, length_of}
 use Rattle.line_shape.specs.Reading as shapes
 use Rattle.line_read.specs.Types.{last_vector, longest, longest_vector_line}
 use Rattle.line_read.proofs.Lengths.{line_length}
-use Rattle.line_read.specs.SavedNamed.{clock_read, last_read, total_read}
+use Rattle.line_read.specs.SavedNamed.{is_last, clock_read, last_read, total_read}
 use Rattle.line_read.proofs.SavedNamed.{last_reads_back}
 use Rattle.line_decode.specs.Decoding.{bytes_of}
 use Rattle.line_decode.proofs.Decoding.{bytes_back}
@@ -62,7 +62,7 @@ last_short : (k : ℕ) (v : Vector) → length v ≤ greatest_size → length (l
 unfolding last_line length_of
 last_short k v few = omega (arith, line_length last_vector (k ∷ []) v refl)
 
-last_read_lem : (size k : ℕ) (v : Vector) → length v ≡ size → size ≤ greatest_size → k < size → every (λ (entry : ℕ). ltb entry entry_limit) v ≡ true → last_read size (last_line k v) ≡ record { ok = true; station = k; vector = shapes.padded greatest_size v }
+last_read_lem : (size k : ℕ) (v : Vector) → length v ≡ size → size ≤ greatest_size → k < size → every (λ (entry : ℕ). ltb entry entry_limit) v ≡ true → (is_last size (last_line k v) ≡ true) × (last_read size (last_line k v) ≡ record { station = k; vector = shapes.padded greatest_size v })
 unfolding last_line Fitting
 last_read_lem size k v long few b small = rw (sym long) (last_reads_back v (omega arith) k (omega arith, (omega arith, fit_each 4 v (below_every v small))))
 
@@ -102,7 +102,7 @@ module _ (p : ℕ) (t : Table) (rest : List ℕ) (K : Keeps p t) (u : under_load
         table = with_clock t v;
         header_is = refl;
         keeps = keeps_clock p t K c none v (facts (opened t.header) is_opened).clock_words (fresh_clock t F v long);
-        taken = clock_step t F rest p (hex_line (clock_line v)) none c v long (ap (clock_read size) there ∙ clock_back (opened t.header) is_opened);
+        taken = clock_step t F rest p (hex_line (clock_line v)) none c v long (rw there (clock_back (opened t.header) is_opened));
       }
 
   more_last : (k : ℕ) → coming ≡ next.Last (record { 0 = k }) → OneMore p t rest
@@ -120,7 +120,7 @@ module _ (p : ℕ) (t : Table) (rest : List ℕ) (K : Keeps p t) (u : under_load
         table = with_last t (set t.last k v);
         header_is = refl;
         keeps = keeps_last p t K k within c v kept (fresh_last t F k v long);
-        taken = last_step t F rest p (hex_line (last_line k v)) none k within c v long kept (ap (last_read size) there ∙ last_read_lem size k v long few within K.small);
+        taken = last_step t F rest p (hex_line (last_line k v)) none k within c v long kept (rw there (last_read_lem size k v long few within K.small));
       }
 
   more_total : (o : ℕ) → coming ≡ next.Total o → OneMore p t rest
@@ -135,7 +135,7 @@ module _ (p : ℕ) (t : Table) (rest : List ℕ) (K : Keeps p t) (u : under_load
         table = with_totals t (set t.totals o (pos 0));
         header_is = refl;
         keeps = keeps_total p t K o within c (pos 0) kept (fresh_total t F o (pos 0) (omega arith));
-        taken = total_step t F rest p (hex_line (total_line o (pos 0))) none o within c (pos 0) (omega arith) kept (ap total_read there ∙ total_back (opened t.header) is_opened o (pos 0) within);
+        taken = total_step t F rest p (hex_line (total_line o (pos 0))) none o within c (pos 0) (omega arith) kept (rw there (total_back (opened t.header) is_opened o (pos 0) within));
       }
 
   more : (n : Next) → coming ≡ n → (coming ≡ next.Rows) ⊎ OneMore p t rest

@@ -18,11 +18,11 @@ use Rattle.line_hex.proofs.Spelling.{line_only_spelling}
 use Rattle.line_hex.proofs.Bytes.{all_bytes_drop, all_bytes_take}
 use Rattle.line_shape.specs.declared.Fields.{Fields}
 use Rattle.line_shape.specs.Reading as shapes
-use Rattle.line_shape.specs.Reading.{entries, fields_read, has_shape, size_of, unread}
+use Rattle.line_shape.specs.Reading.{is_shaped, entries, fields_read, has_shape, size_of, unread}
 use Rattle.line_shape.specs.Shapes.{length_of, read, written}
 use Rattle.line_shape.proofs.Spelling.{length_read}
 use Rattle.line_put.specs.Writing.{line_bytes}
-use Rattle.line_read.specs.Types.{Line, head_of, line_of, line_read, longest}
+use Rattle.line_read.specs.Types.{is_line_of, Line, head_of, line_of, line_read, longest}
 use Rattle.line_read.specs.SavedNamed.{row_read, total_read}
 use Rattle.line_decode.specs.Decoding.{bytes_of}
 use Rattle.meaning.specs.Table.{greatest_size}
@@ -48,13 +48,13 @@ line_said type fields more line e = sym (ap hex_line e ∙ decoded_spelt line (�
 
 -- a vector that was read has zeros behind it
 padded_by : (b : Bool) (stations : ℕ) (head found : List ℕ) → length found ≡ stations →
-    let whole : Fields = record { ok = true; head = head; vector = found ++ replicate (greatest_size - length found) 0 } in
-    (pick b whole unread).ok ≡ true → (pick b whole unread).vector ≡ take stations (pick b whole unread).vector ++ replicate (greatest_size - length (take stations (pick b whole unread).vector)) 0
+    let whole : Fields = record { head = head; vector = found ++ replicate (greatest_size - length found) 0 } in
+    b ≡ true → (pick b whole unread).vector ≡ take stations (pick b whole unread).vector ++ replicate (greatest_size - length (take stations (pick b whole unread).vector)) 0
 padded_by true stations head found long e = rw (take_at found (replicate (greatest_size - length found) 0) stations long) refl
 padded_by false stations head found long e = absurd (let z : ◌≡◌ {A = ℕ} 0 1 = cc in omega arith)
 
-pub vector_padded : (type : Line) (stations : ℕ) (bytes : List ℕ) → (line_read type stations bytes).ok ≡ true → (line_read type stations bytes).vector ≡ shapes.padded greatest_size (take stations (line_read type stations bytes).vector)
-unfolding line_read fields_read entries shapes.padded
+pub vector_padded : (type : Line) (stations : ℕ) (bytes : List ℕ) → is_line_of type stations bytes ≡ true → (line_read type stations bytes).vector ≡ shapes.padded greatest_size (take stations (line_read type stations bytes).vector)
+unfolding line_read is_line_of is_shaped fields_read entries shapes.padded
 vector_padded type stations bytes =
     padded_by (leb stations greatest_size && has_shape type.type_byte (size_of (head_of type) stations) bytes) stations (shapes.padded 6 (read (head_of type) bytes)) (read (replicate stations 4) (drop (length_of (head_of type)) bytes))
     (length_read (replicate stations 4) (drop (length_of (head_of type)) bytes) ∙ length-replicate stations 4)
@@ -84,20 +84,20 @@ entries_small zero bs h = refl
 entries_small (suc n) bs h = rw (lt-ltb (number_of (take 4 bs)) entry_limit (word_small 0 bs h)) (entries_small n (drop 4 bs) (all_bytes_drop 4 bs h))
 
 small_by : (b : Bool) (stations : ℕ) (head found : List ℕ) → length found ≡ stations → every (λ (entry : ℕ). ltb entry entry_limit) found ≡ true →
-    let whole : Fields = record { ok = true; head = head; vector = found ++ replicate (greatest_size - length found) 0 } in
-    (pick b whole unread).ok ≡ true → every (λ (entry : ℕ). ltb entry entry_limit) (take stations (pick b whole unread).vector) ≡ true
+    let whole : Fields = record { head = head; vector = found ++ replicate (greatest_size - length found) 0 } in
+    b ≡ true → every (λ (entry : ℕ). ltb entry entry_limit) (take stations (pick b whole unread).vector) ≡ true
 small_by true stations head found long small e = rw (take_at found (replicate (greatest_size - length found) 0) stations long) small
 small_by false stations head found long small e = absurd (false≢true e)
 
-pub vector_small : (type : Line) (stations : ℕ) (bytes : List ℕ) → AllBytes bytes → (line_read type stations bytes).ok ≡ true → every (λ (entry : ℕ). ltb entry entry_limit) (take stations (line_read type stations bytes).vector) ≡ true
-unfolding line_read fields_read entries shapes.padded
+pub vector_small : (type : Line) (stations : ℕ) (bytes : List ℕ) → AllBytes bytes → is_line_of type stations bytes ≡ true → every (λ (entry : ℕ). ltb entry entry_limit) (take stations (line_read type stations bytes).vector) ≡ true
+unfolding line_read is_line_of is_shaped fields_read entries shapes.padded
 vector_small type stations bytes h =
     let behind = drop (length_of (head_of type)) bytes in
     small_by (leb stations greatest_size && has_shape type.type_byte (size_of (head_of type) stations) bytes) stations (shapes.padded 6 (read (head_of type) bytes)) (read (replicate stations 4) behind)
     (length_read (replicate stations 4) behind ∙ length-replicate stations 4) (entries_small stations behind (all_bytes_drop (length_of (head_of type)) bytes h))
 
 words_by : (b : Bool) (head vector : List ℕ) (i : ℕ) → get_or head i 0 < word_limit →
-    let whole : Fields = record { ok = true; head = head; vector = vector } in
+    let whole : Fields = record { head = head; vector = vector } in
     get_or (pick b whole unread).head i 0 < word_limit
 words_by true head vector i h = h
 words_by false head vector i h = zeros_small 6 i

@@ -19,8 +19,8 @@ use Rattle.words_layout.specs.Layout.{count_in, holds_table, space_for, with_clo
 use Rattle.table_rules_clock.specs.ClockTests.{last_kept, total_kept}
 use Rattle.words_layout.proofs.Changing.{words_long}
 use Rattle.arrival.proofs.Kept.{laid_held}
-use Rattle.line_read.specs.Types.{head_of, line_read, row}
-use Rattle.line_read.specs.SavedNamed.{closing_read, row_read}
+use Rattle.line_read.specs.Types.{is_line_of, head_of, line_read, row}
+use Rattle.line_read.specs.SavedNamed.{closing_read, is_closing, row_read, is_row}
 use Rattle.line_read.proofs.SavedNamed.{closing_only_spelling}
 use Rattle.line_decode.specs.Decoding.{bytes_of}
 use Rattle.form_lines.specs.FormLines.{clock_line, closing_line, last_line, row_line, total_line}
@@ -112,7 +112,7 @@ module _ (all : ℕ) (line : List ℕ) (p : ℕ) (t : Table) (rest : List ℕ) (
       ))
 
   by_row : coming ≡ next.Rows → Outcome all line words
-  by_row c = cases (row_read t.header.size (bytes_of line)).ok
+  by_row c = cases (is_row t.header.size (bytes_of line))
       (λ ok. from (row_line t.header.size) (λ (r : Row). with_rows t (t.rows ++ (r ∷ []))) (RowRules t) p (λ r. refl) (keeps_row p t K) (row_back t F rest p line c ok))
       (λ other. by_closing (close_back t F rest p line c other))
 
@@ -194,15 +194,15 @@ module _ (n : ℕ) (words : List ℕ) (S : SoFar n words) (rows : next_in words 
   table_held : holds_table (load_over words) ≡ true
   table_held = rw whole (laid_held u is_table_lem S.rest)
 
-  closes : (line : List ℕ) → (closing_read (bytes_of line)).ok ≡ true → (closing_read (bytes_of line)).rows ≡ count_in words → loaded_by line words ≡ (loaded.Table, load_over words)
-  unfolding row_read line_read closing_line
+  closes : (line : List ℕ) → is_closing (bytes_of line) ≡ true → (closing_read (bytes_of line)).rows ≡ count_in words → loaded_by line words ≡ (loaded.Table, load_over words)
+  unfolding is_row is_line_of closing_line
   closes line ok count =
       let f = closing_read (bytes_of line) in
       let many : f.rows ≡ length u.rows = count ∙ ap count_in S.words_are ∙ count_is u fresh S.rest S.progress in
       let spelt : closing_line f.rows ≡ bytes_of line = closing_only_spelling (bytes_of line) (decoded_bytes line) ok in
-      let no_row : (row_read u.header.size (bytes_of line)).ok ≡ false = subst (λ (bytes : List ℕ). (row_read u.header.size bytes).ok ≡ false) spelt (no_shape (head_of row) u.header.size (closing_line f.rows) (closing_first f.rows)) in
+      let no_row : is_row u.header.size (bytes_of line) ≡ false = subst (λ (bytes : List ℕ). is_row u.header.size bytes ≡ false) spelt (no_shape (head_of row) u.header.size (closing_line f.rows) (closing_first f.rows)) in
       ap (loaded_by line) S.words_are
-      ∙ close_step u fresh S.rest S.progress line come no_row (ap₂ (λ (b : Bool) (n : ℕ). record { ok = b; rows = n }) ok many) is_table_lem
+      ∙ close_step u fresh S.rest S.progress line come no_row (ok, ap (λ (n : ℕ). record { rows = n }) many) is_table_lem
       ∙ ap (λ (w : List ℕ). (loaded.Table, w)) (sym whole)
 
 -- so many words are left by a line that closes the form
@@ -217,5 +217,5 @@ table_before_closing first lines space words idle taken rows = table_held (lengt
 
 -- So a closing line in its place is refused for its count alone.
 pub rules_kept : (first : List ℕ) (lines : List (List ℕ)) (space words line : List ℕ) → under_load space ≡ false → TakesAll (first ∷ lines) space words → next_in words ≡ next.Rows
-    → (closing_read (bytes_of line)).ok ≡ true → (closing_read (bytes_of line)).rows ≡ count_in words → loaded_by line words ≡ (loaded.Table, load_over words)
+    → is_closing (bytes_of line) ≡ true → (closing_read (bytes_of line)).rows ≡ count_in words → loaded_by line words ≡ (loaded.Table, load_over words)
 rules_kept first lines space words line idle taken rows = closes (length space) words (all_taken first lines space words idle taken).1 rows line

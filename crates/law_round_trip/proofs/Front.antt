@@ -195,7 +195,7 @@ module _ (t : Table) (is : is_table t ≡ true) (rest : List ℕ) where
   -- `50`
   pub clock_taken_lem : loaded_by (hex_line (clock_line t.clock)) (under 1 (opened t.header) rest) ≡ (loaded.Taken, under 2 (lasts_at 0) rest)
   unfolding opened next_after
-  clock_taken_lem = clock_step (opened t.header) fresh_opened rest 1 (hex_line (clock_line t.clock)) refl refl t.clock F.clock_length (ap (clock_read size) heard ∙ clock_back t is)
+  clock_taken_lem = clock_step (opened t.header) fresh_opened rest 1 (hex_line (clock_line t.clock)) refl refl t.clock F.clock_length (rw heard (clock_back t is))
     where
       heard : bytes_of (hex_line (clock_line t.clock)) ≡ clock_line t.clock
       heard = bytes_back (clock_line t.clock) (replicate longest 0) (clock_bytes t.clock) (length-replicate {A = ℕ} longest 0) (omega (arith, clock_short t is))
@@ -256,7 +256,7 @@ module _ (t : Table) (is : is_table t ≡ true) (rest : List ℕ) where
       let v = get_or t.last k [] in
       let line = hex_line (last_line k v) in
       let heard : bytes_of line ≡ last_line k v = bytes_back (last_line k v) (replicate longest 0) (last_bytes k v) (length-replicate {A = ℕ} longest 0) (omega (arith, last_short t is k b)) in
-      let step = last_step (lasts_at k) (fresh_lasts k) rest (suc (suc (others own k))) line refl k b (next_last k b other) v (last_known t is k b).0 (last_held k b other) (ap (last_read size) heard ∙ last_back t is k b) in
+      let step = last_step (lasts_at k) (fresh_lasts k) rest (suc (suc (others own k))) line refl k b (next_last k b other) v (last_known t is k b).0 (last_held k b other) (rw heard (last_back t is k b)) in
       rw q (first_taken_lem line (map hex_line (lines_of not_own last_line (suc k) (drop (suc k) t.last))) (under (suc (suc (others own k))) (lasts_at k) rest) (under (suc (suc (others own (suc k)))) (lasts_at (suc k)) rest) behind_lasts_lem
       (step ∙ ap₂ (λ (i : ℕ) (l : List Vector). (loaded.Taken, under (suc (suc i)) (parts t.clock l no_totals []) rest)) (sym number) (mixed_set t.last no_last [] k here there))
       (lasts_from n (suc k) (omega arith)))))
@@ -331,7 +331,7 @@ module _ (t : Table) (is : is_table t ≡ true) (rest : List ℕ) where
       let z = get_or t.totals k (pos 0) in
       let line = hex_line (total_line k z) in
       let heard : bytes_of line ≡ total_line k z = bytes_back (total_line k z) (replicate longest 0) (total_bytes k z) (length-replicate {A = ℕ} longest 0) (omega (arith, total_short t is k z)) in
-      let step = total_step (totals_at_lem k) (fresh_totals k) rest (counted k) line refl k b (next_total_lem k b q) z (each_range t.totals W.range k here) (total_held k b) (ap total_read heard ∙ total_back t is k z b) in
+      let step = total_step (totals_at_lem k) (fresh_totals k) rest (counted k) line refl k b (next_total_lem k b q) z (each_range t.totals W.range k here) (total_held k b) (rw heard (total_back t is k z b)) in
       rw q (first_taken_lem line rest_lines (under (counted k) (totals_at_lem k) rest) (under (counted (suc k)) (totals_at_lem (suc k)) rest) behind_totals_lem
       (step ∙ ap₂ (λ (i : ℕ) (l : List ℤ). (loaded.Taken, under i (parts t.clock t.last l []) rest)) (sym progress) (mixed_set t.totals no_totals (pos 0) k here there))
       (totals_from n (suc k) (omega arith))))

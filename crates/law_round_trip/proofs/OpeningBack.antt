@@ -16,7 +16,7 @@ use Rattle.meaning.proofs.TableRules.{opened_is_table}
 use Rattle.words_layout.specs.Layout.{space_for}
 use Rattle.line_hex.specs.Hex.{hex_line}
 use Rattle.line_read.specs.Types.{line_of, opening}
-use Rattle.line_read.specs.Named.{opening_read}
+use Rattle.line_read.specs.Named.{opening_read, is_opening}
 use Rattle.line_read.proofs.Taken.{opening_only_spelling}
 use Rattle.line_read.proofs.Longest.{opening_size}
 use Rattle.line_decode.specs.Decoding.{bytes_of, type_of}
@@ -51,7 +51,7 @@ module _ (line words : List ℕ) (idle : under_load words ≡ false) where
   abbrev refusal : ℕ
   refusal = first_of (opening_refusals (length words) (space_for header.size header.capacity) header)
 
-  line_is : (opening_read bytes).ok ≡ true → line ≡ hex_line (opening_line header)
+  line_is : is_opening bytes ≡ true → line ≡ hex_line (opening_line header)
   unfolding opening_line header_read
   line_is ok =
       let asked = opening_read bytes in
@@ -68,7 +68,7 @@ module _ (line words : List ℕ) (idle : under_load words ≡ false) where
 
   opened_back : loaded_by line words ≡ begun (opened_by line words) → Back
   unfolding begun opened_by opened_as meaning.open_table opened
-  opened_back is = cases (opening_read bytes).ok
+  opened_back is = cases (is_opening bytes)
       (λ ok. cases (eqb refusal 0)
       (λ none. inr (record {
         what = header;

@@ -28,16 +28,16 @@ use Rattle.line_hex.specs.Decoding.{pair_of}
 use Rattle.line_hex.specs.Choice.{pick}
 use Rattle.line_hex.specs.Numbers.{AllBytes, big_endian}
 use Rattle.line_shape.specs.declared.Fields.{Fields}
-use Rattle.line_shape.specs.Reading.{entries, fields_read, has_shape, padded, size_of, starts_with, unread}
+use Rattle.line_shape.specs.Reading.{is_shaped, entries, fields_read, has_shape, padded, size_of, starts_with, unread}
 use Rattle.line_shape.specs.Shapes.{length_of, read, written}
 use Rattle.line_put.specs.Writing.{line_bytes}
-use Rattle.line_read.specs.Types.{opening, row, closing, head_of, line_read, longest}
+use Rattle.line_read.specs.Types.{is_line_of, opening, row, closing, head_of, line_read, longest}
 use Rattle.line_read.proofs.Spelling.{all_bytes_line_of}
 use Rattle.line_decode.specs.Decoding.{bytes_of, type_of}
 use Rattle.line_decode.specs.LineKinds.{kind_of}
 use Rattle.line_decode.specs.declared.LineKind.TheVariants as kind
 use Rattle.line_decode.proofs.Decoding.{bytes_back}
-use Rattle.line_read.specs.SavedNamed.{closing_read, row_read}
+use Rattle.line_read.specs.SavedNamed.{closing_read, row_read, is_row}
 use Rattle.form_lines.specs.FormLines.{opening_line, clock_line, row_line, closing_line}
 use Rattle.meaning.proofs.TableFacts.{row_small}
 use Rattle.form_write.specs.Forms.{last_lines, row_lines, saved_form, total_lines}
@@ -100,11 +100,11 @@ unfolding closing_line
 closing_bytes n = all_bytes_line_of closing _ _
 
 -- a line of another type has no row's shape
-pub no_shape : (widths : List ℕ) (stations : ℕ) (bytes : List ℕ) → starts_with 83 bytes ≡ false → (fields_read 83 widths stations bytes).ok ≡ false
-unfolding fields_read has_shape
+pub no_shape : (widths : List ℕ) (stations : ℕ) (bytes : List ℕ) → starts_with 83 bytes ≡ false → is_shaped 83 widths stations bytes ≡ false
+unfolding is_shaped has_shape
 no_shape widths stations bytes e = rw e (by (leb stations greatest_size) (eqb (length bytes) (size_of widths stations)))
   where
-    by : (a b : Bool) → (pick {A = Fields} (a && (b && false)) (record { ok = true; head = padded 6 (read widths bytes); vector = padded greatest_size (entries stations (drop (length_of widths) bytes)) }) unread).ok ≡ false
+    by : (a b : Bool) → (a && (b && false)) ≡ false
     by true true = refl
     by true false = refl
     by false b = refl
@@ -161,7 +161,7 @@ module _ (t : Table) (is : is_table t ≡ true) (rest : List ℕ) where
       let line = hex_line (row_line size r) in
       let heard : bytes_of line ≡ row_line size r = bytes_back (row_line size r) (replicate longest 0) (row_bytes size r) (length-replicate {A = ℕ} longest 0) (omega (arith, row_short t is r m)) in
       let step = row_step (rows_at_lem done) (fresh_rows done (r ∷ left) e) rest progress line (next_rows t is rest) r few (row_small t is r m) room kept
-      (λ some. rw (sym many) (chained_at (follows t.header.kinds) (map (row_words size) done) (row_words size r) (map (row_words size) left) chain (omega (arith, many)))) (ap (row_read size) heard ∙ row_back t is r m) in
+      (λ some. rw (sym many) (chained_at (follows t.header.kinds) (map (row_words size) done) (row_words size r) (map (row_words size) left) chain (omega (arith, many)))) (rw heard (row_back t is r m)) in
       first_taken_lem line (map hex_line (map (row_line size) left)) (under progress (rows_at_lem done) rest) (under progress (rows_at_lem (done ++ (r ∷ []))) rest) (under progress (rows_at_lem t.rows) rest) step
       (rows_from_lem (done ++ (r ∷ [])) left (append_assoc done (r ∷ []) left ∙ e))
 
@@ -172,15 +172,15 @@ module _ (t : Table) (is : is_table t ≡ true) (rest : List ℕ) where
   fresh_whole = fresh_rows t.rows [] (append-nil t.rows)
 
   -- `5f`
-  closing_is_no_row : (row_read size (closing_line (length t.rows))).ok ≡ false
-  unfolding row_read line_read
+  closing_is_no_row : is_row size (closing_line (length t.rows)) ≡ false
+  unfolding is_row is_line_of
   closing_is_no_row = no_shape (head_of row) size (closing_line (length t.rows)) (closing_first (length t.rows))
 
   pub closing_at : (p : ℕ) → next_after size t.header.own t.header.kinds p ≡ next.Rows → loaded_by (hex_line (closing_line (length t.rows))) (under p t rest) ≡ (loaded.Table, words_of t ++ rest)
   closing_at p c =
       let line = closing_line (length t.rows) in
       let heard : bytes_of (hex_line line) ≡ line = bytes_back line (replicate longest 0) (closing_bytes (length t.rows)) (length-replicate {A = ℕ} longest 0) (omega (arith, closing_short t is)) in
-      close_step t fresh_whole rest p (hex_line line) c (rw heard closing_is_no_row) (ap closing_read heard ∙ closing_back t is) is
+      close_step t fresh_whole rest p (hex_line line) c (rw heard closing_is_no_row) (rw heard (closing_back t is)) is
 
 -- `10`
 opening_kind : (header : Header) → kind_of (type_of (hex_line (opening_line header))) ≡ kind.Opening

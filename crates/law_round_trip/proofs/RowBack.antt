@@ -26,7 +26,7 @@ use Rattle.line_hex.specs.Hex.{hex_line}
 use Rattle.line_shape.specs.Reading as shapes
 use Rattle.line_read.specs.Types.{closing, line_of, row}
 use Rattle.line_read.specs.declared.Row as saved
-use Rattle.line_read.specs.SavedNamed.{closing_read, row_read}
+use Rattle.line_read.specs.SavedNamed.{is_closing, closing_read, row_read, is_row}
 use Rattle.line_read.proofs.SavedNamed.{closing_only_spelling, row_only_spelling}
 use Rattle.line_read.proofs.Vectors.{row_vector}
 use Rattle.line_decode.specs.Decoding.{bytes_of}
@@ -94,10 +94,10 @@ module _ (size : ℕ) (f : saved.Row) (long : length (take size f.vector) ≡ si
   pub row_low : said_row.operation.value < value_limit
   row_low = omega arith
 
-  pub said_line : f.ok ≡ true → f.vector ≡ shapes.padded greatest_size v → f ≡ line_of_row size said_row
-  said_line ok e =
+  pub said_line : f.vector ≡ shapes.padded greatest_size v → f ≡ line_of_row size said_row
+  said_line e =
       let value : 0 * word_limit + f.value ≡ f.value = omega arith in
-      rw (vector_said, settled_back f.settled flag, value, sym e, sym ok) refl
+      rw (vector_said, settled_back f.settled flag, value, sym e) refl
 
 -- two tests one after the other are one
 one_test : (a b c : Bool) (x y : Loaded × List ℕ) → pick (a && b) (pick c x y) y ≡ pick (a && (b && c)) x y
@@ -131,15 +131,15 @@ module _ (t : Table) (F : Fresh t) (rest : List ℕ) (p : ℕ) (line : List ℕ)
   bytes = bytes_of line
 
   -- `5f`
-  pub close_back : (row_read size bytes).ok ≡ false → (refused (loaded_by line space).0 ≡ true) ⊎ Closed line t rest p
+  pub close_back : is_row size bytes ≡ false → (refused (loaded_by line space).0 ≡ true) ⊎ Closed line t rest p
   unfolding taken_as row_or_closing closed finished words_of spoilt closing_line
   close_back n =
       let f = closing_read bytes in
       let whole : set space 6 0 ≡ plain = set_set plain 6 p 0 in
-      let answer : loaded_by line space ≡ pick (f.ok && (eqb f.rows (length t.rows) && holds_table plain)) (loaded.Table, plain) (spoilt space) = by_rows_lem t F rest p line c ∙ rw (n, whole, count_is t F rest p) (one_test f.ok (eqb f.rows (length t.rows)) (holds_table plain) (loaded.Table, plain) (spoilt space)) in
-      cases (f.ok && (eqb f.rows (length t.rows) && holds_table plain))
-      (λ yes. let ok : f.ok ≡ true = and_left f.ok (eqb f.rows (length t.rows) && holds_table plain) yes in
-      let both = and_right f.ok (eqb f.rows (length t.rows) && holds_table plain) yes in
+      let answer : loaded_by line space ≡ pick (is_closing bytes && (eqb f.rows (length t.rows) && holds_table plain)) (loaded.Table, plain) (spoilt space) = by_rows_lem t F rest p line c ∙ rw (n, whole, count_is t F rest p) (one_test (is_closing bytes) (eqb f.rows (length t.rows)) (holds_table plain) (loaded.Table, plain) (spoilt space)) in
+      cases (is_closing bytes && (eqb f.rows (length t.rows) && holds_table plain))
+      (λ yes. let ok : is_closing bytes ≡ true = and_left (is_closing bytes) (eqb f.rows (length t.rows) && holds_table plain) yes in
+      let both = and_right (is_closing bytes) (eqb f.rows (length t.rows) && holds_table plain) yes in
       let many : f.rows ≡ length t.rows = eqb-true f.rows (length t.rows) (and_left (eqb f.rows (length t.rows)) (holds_table plain) both) in
       inr (record {
         line_is = line_said closing (f.rows ∷ []) [] line (closing_only_spelling bytes (decoded_bytes line) ok) ∙ ap (λ (k : ℕ). hex_line (line_of closing (k ∷ []) [])) many;
@@ -168,7 +168,7 @@ module _ (t : Table) (F : Fresh t) (rest : List ℕ) (p : ℕ) (line : List ℕ)
         ),
       )
 
-  row_taken_lem : (row_read size bytes).ok ≡ true → length (take size (row_read size bytes).vector) ≡ size → (row_read size bytes).settled ≤ 1 → joins space (row_said size (row_read size bytes)) ≡ true → Took line space (row_line size) (λ (r : Row). with_rows t (t.rows ++ (r ∷ []))) (RowRules t) p rest
+  row_taken_lem : is_row size bytes ≡ true → length (take size (row_read size bytes).vector) ≡ size → (row_read size bytes).settled ≤ 1 → joins space (row_said size (row_read size bytes)) ≡ true → Took line space (row_line size) (λ (r : Row). with_rows t (t.rows ++ (r ∷ []))) (RowRules t) p rest
   unfolding row_line row_read
   row_taken_lem ok long flag join =
       let f = row_read size bytes in
@@ -178,7 +178,7 @@ module _ (t : Table) (F : Fresh t) (rest : List ℕ) (p : ℕ) (line : List ℕ)
       let r : Row = said_row size f long small flag kinds t.clock J.1.0 in
       let spelt : row_words size r ≡ row_said size f = words_said size f long small flag kinds t.clock J.1.0 in
       let few : length r.operation.vector ≤ size = row_few size f long small flag kinds t.clock J.1.0 in
-      let e : f ≡ line_of_row size r = said_line size f long small flag kinds t.clock J.1.0 ok (vector_padded row size bytes ok) in
+      let e : f ≡ line_of_row size r = said_line size f long small flag kinds t.clock J.1.0 (vector_padded row size bytes ok) in
       record {
         what = r;
         line_is = line_said row (f.object ∷ f.code ∷ f.settled ∷ f.sender ∷ f.value ∷ []) (take size f.vector) line (row_only_spelling bytes (decoded_bytes line) size ok)
@@ -186,7 +186,7 @@ module _ (t : Table) (F : Fresh t) (rest : List ℕ) (p : ℕ) (line : List ℕ)
             ∙ ap (λ (l : List ℕ). hex_line (line_of row (r.operation.object ∷ r.operation.code ∷ cond r.settled 1 0 ∷ r.operation.sender ∷ r.operation.value ∷ []) l)) (front_of (words.padded size r.operation.vector) size (length_padded size r.operation.vector few));
         fresh = fresh_row t F r (row_shaped size f long small flag kinds t.clock J.1.0) J.0;
         kept = (rw spelt J.1.0, λ some. rw spelt (J.1.1 some));
-        next_is = row_step t F rest p line c r few (row_low size f long small flag kinds t.clock J.1.0) J.0 (rw spelt J.1.0) (λ some. rw spelt (J.1.1 some)) e;
+        next_is = row_step t F rest p line c r few (row_low size f long small flag kinds t.clock J.1.0) J.0 (rw spelt J.1.0) (λ some. rw spelt (J.1.1 some)) (ok, e);
       }
 
   -- what a row's line gets
@@ -196,11 +196,11 @@ module _ (t : Table) (F : Fresh t) (rest : List ℕ) (p : ℕ) (line : List ℕ)
       (loaded.Taken, set (paste space (row_place space (length t.rows)) (row_said size f) (length (row_said size f))) 5 (suc (length t.rows)))
       (spoilt space)
 
-  row_answered : (row_read size bytes).ok ≡ true → loaded_by line space ≡ row_answer (row_read size bytes)
+  row_answered : is_row size bytes ≡ true → loaded_by line space ≡ row_answer (row_read size bytes)
   unfolding taken_as row_or_closing row_taken joining.joined words_of
   row_answered ok = by_rows_lem t F rest p line c ∙ ap (λ (b : Bool). pick b (row_answer (row_read size bytes)) (closed bytes space)) ok
 
-  pub row_back : (row_read size bytes).ok ≡ true → (refused (loaded_by line space).0 ≡ true) ⊎ Took line space (row_line size) (λ (r : Row). with_rows t (t.rows ++ (r ∷ []))) (RowRules t) p rest
+  pub row_back : is_row size bytes ≡ true → (refused (loaded_by line space).0 ≡ true) ⊎ Took line space (row_line size) (λ (r : Row). with_rows t (t.rows ++ (r ∷ []))) (RowRules t) p rest
   unfolding spoilt
   row_back ok =
       let f = row_read size bytes in

@@ -26,7 +26,7 @@ use Rattle.line_hex.specs.Choice.{pick}
 use Rattle.line_shape.specs.Reading as shapes
 use Rattle.line_read.specs.declared.Row as saved
 use Rattle.line_read.specs.declared.Closing.{Closing}
-use Rattle.line_read.specs.SavedNamed.{closing_read, row_read}
+use Rattle.line_read.specs.SavedNamed.{is_closing, closing_read, row_read, is_row}
 use Rattle.line_decode.specs.Decoding.{bytes_of}
 use Rattle.words_layout.proofs.Pieces.{piece_at}
 use Rattle.form_take.specs.declared.Loaded.TheVariants as loaded
@@ -58,7 +58,7 @@ byte_low false = refl
 
 -- what a row's line says
 abbrev pub line_of_row : ℕ → Row → saved.Row
-line_of_row size r = record { ok = true; object = r.operation.object; code = r.operation.code; settled = cond r.settled 1 0; sender = r.operation.sender; value = r.operation.value; vector = shapes.padded greatest_size (words.padded size r.operation.vector) }
+line_of_row size r = record { object = r.operation.object; code = r.operation.code; settled = cond r.settled 1 0; sender = r.operation.sender; value = r.operation.value; vector = shapes.padded greatest_size (words.padded size r.operation.vector) }
 
 said_words : (size : ℕ) (r : Row) → length r.operation.vector ≤ size → r.operation.value < value_limit → row_said size (line_of_row size r) ≡ row_words size r
 unfolding row_said number_of
@@ -85,12 +85,12 @@ module _ (t : Table) (F : Fresh t) (rest : List ℕ) (p : ℕ) (line : List ℕ)
   by_rows_lem = taken_by_lem t F rest p line next.Rows c refl
 
   -- the closing line
-  pub close_step : (row_read size (bytes_of line)).ok ≡ false → closing_read (bytes_of line) ≡ record { ok = true; rows = length t.rows } → is_table t ≡ true → loaded_by line space ≡ (loaded.Table, plain)
+  pub close_step : is_row size (bytes_of line) ≡ false → (is_closing (bytes_of line) ≡ true) × (closing_read (bytes_of line) ≡ record { rows = length t.rows }) → is_table t ≡ true → loaded_by line space ≡ (loaded.Table, plain)
   unfolding taken_as row_or_closing closed finished words_of
   close_step n e is =
       let whole : set space 6 0 ≡ plain = set_set plain 6 p 0 in
       by_rows_lem ∙ rw (n, whole, count_is t F rest p)
-      (ap (λ (f : Closing). pick (f.ok && eqb f.rows (length t.rows)) (pick (holds_table plain) (loaded.Table, plain) (spoilt space)) (spoilt space)) e
+      (rw e.0 (ap (λ (f : Closing). pick (eqb f.rows (length t.rows)) (pick (holds_table plain) (loaded.Table, plain) (spoilt space)) (spoilt space)) e.1)
       ∙ rw (eq-eqb (length t.rows) (length t.rows) refl, laid_held t is rest) refl)
 
   -- the rows that stand there
@@ -140,8 +140,8 @@ module _ (t : Table) (F : Fresh t) (rest : List ℕ) (p : ℕ) (line : List ℕ)
         ∙ set_swap (paste plain place (row_words size r) (length (row_words size r))) 5 6 (suc (length t.rows)) p (omega arith)
         ∙ ap (λ (l : List ℕ). set l 6 p) (row_behind t F rest r wide more)
 
-    pub row_step : row_read size (bytes_of line) ≡ line_of_row size r → loaded_by line space ≡ (loaded.Taken, under p (with_rows t (t.rows ++ (r ∷ []))) rest)
+    pub row_step : (is_row size (bytes_of line) ≡ true) × (row_read size (bytes_of line) ≡ line_of_row size r) → loaded_by line space ≡ (loaded.Taken, under p (with_rows t (t.rows ++ (r ∷ []))) rest)
     unfolding taken_as row_or_closing row_taken joined words_of
     row_step e =
         by_rows_lem
-        ∙ rw (size_is t F rest p, e, said_words size r few low, byte_low r.settled, may_join) (ap (λ (l : List ℕ). (loaded.Taken, l)) after)
+        ∙ rw (size_is t F rest p, e.0, e.1, said_words size r few low, byte_low r.settled, may_join) (ap (λ (l : List ℕ). (loaded.Taken, l)) after)

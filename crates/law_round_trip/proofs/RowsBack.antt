@@ -12,7 +12,7 @@ use Rattle.meaning.proofs.Tests.{cases}
 use Rattle.words_layout.specs.Layout.{holds_table, table_of, words_of}
 use Rattle.words_layout.proofs.Reading.{table_read}
 use Rattle.line_hex.specs.Hex.{hex_line}
-use Rattle.line_read.specs.SavedNamed.{row_read}
+use Rattle.line_read.specs.SavedNamed.{row_read, is_row}
 use Rattle.line_decode.specs.Decoding.{bytes_of}
 use Rattle.form_lines.specs.FormLines.{closing_line, row_line}
 use Rattle.form_take.specs.declared.Loaded.{Loaded}
@@ -58,7 +58,7 @@ one_more line lines t rest p after G E =
 
 pub rows_from_lem : (lines : List (List ℕ)) (t : Table) → Fresh t → (rest : List ℕ) (p : ℕ) (after : List ℕ) → next_after t.header.size t.header.own t.header.kinds p ≡ next.Rows → Loads lines (under p t rest) after → RowsEnd t lines after
 rows_from_lem [] t F rest p after c h = absurd h
-rows_from_lem (line ∷ lines) t F rest p after c h = cases (row_read t.header.size (bytes_of line)).ok
+rows_from_lem (line ∷ lines) t F rest p after c h = cases (is_row t.header.size (bytes_of line))
     (λ ok. let G = goes_on line lines (under p t rest) (row_line t.header.size) (λ (r : Row). with_rows t (t.rows ++ (r ∷ []))) p rest after (row_back t F rest p line c ok) h in
     one_more line lines t rest p after G (rows_from_lem lines (with_rows t (t.rows ++ (G.what ∷ []))) G.fresh rest p after c G.more))
     (λ other. closes line lines t F rest p after (close_back t F rest p line c other) h)

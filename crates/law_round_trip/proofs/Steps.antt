@@ -22,7 +22,7 @@ use Rattle.line_shape.specs.Reading as shapes
 use Rattle.line_read.specs.declared.Clock.{Clock}
 use Rattle.line_read.specs.declared.LastVector.{LastVector}
 use Rattle.line_read.specs.declared.Total.{Total}
-use Rattle.line_read.specs.SavedNamed.{clock_read, last_read, total_read}
+use Rattle.line_read.specs.SavedNamed.{is_total, is_last, clock_read, is_clock, last_read, total_read}
 use Rattle.line_decode.specs.Decoding.{bytes_of}
 use Rattle.form_take.specs.declared.Loaded.TheVariants as loaded
 use Rattle.form_load.specs.declared.Next.TheVariants as next
@@ -56,19 +56,19 @@ module _ (t : Table) (F : Fresh t) (rest : List ℕ) (p : ℕ) (line : List ℕ)
   no_rows = eq-eqb (length t.rows) 0 none
 
   -- `50`
-  pub clock_step : next_after size t.header.own t.header.kinds p ≡ next.Clock → (v : Vector) → length v ≡ size → clock_read size (bytes_of line) ≡ record { ok = true; vector = shapes.padded greatest_size v } → loaded_by line (under p t rest) ≡ (loaded.Taken, under (suc p) (with_clock t v) rest)
+  pub clock_step : next_after size t.header.own t.header.kinds p ≡ next.Clock → (v : Vector) → length v ≡ size → (is_clock size (bytes_of line) ≡ true) × (clock_read size (bytes_of line) ≡ record { vector = shapes.padded greatest_size v }) → loaded_by line (under p t rest) ≡ (loaded.Taken, under (suc p) (with_clock t v) rest)
   unfolding taken_as clock_taken waits
   clock_step c v long e =
       let words = under p t rest in
       let put : paste plain clock_at v (length v) ≡ rewritten plain (with_clock t v) = pasted plain v clock_at (size_in plain) (long ∙ sym size_plain) ∙ put_clock plain L v ∙ ap (λ (u : Table). rewritten plain (with_clock u v)) back in
       taken_by_lem t F rest p line next.Clock c no_rows
-      ∙ ap (λ (n : ℕ). pick (clock_read n (bytes_of line)).ok (took words clock_at (take n (clock_read n (bytes_of line)).vector)) (spoilt words)) (size_is t F rest p)
-      ∙ ap (λ (f : Clock). pick f.ok (took words clock_at (take size f.vector)) (spoilt words)) e
+      ∙ ap (λ (n : ℕ). pick (is_clock n (bytes_of line)) (took words clock_at (take n (clock_read n (bytes_of line)).vector)) (spoilt words)) (size_is t F rest p)
+      ∙ rw e.0 (ap (λ (f : Clock). took words clock_at (take size f.vector)) e.1)
       ∙ ap (took words clock_at) (front_of v size long)
       ∙ took_as t F rest p clock_at v (with_clock t v) (omega arith) (omega (arith, room t F rest p)) put
 
   -- `51`
-  pub last_step : (k : ℕ) → k < size → next_after size t.header.own t.header.kinds p ≡ next.Last (record { 0 = k }) → (v : Vector) → length v ≡ size → last_kept t.header.own t.clock k v ≡ true → last_read size (bytes_of line) ≡ record { ok = true; station = k; vector = shapes.padded greatest_size v } → loaded_by line (under p t rest) ≡ (loaded.Taken, under (suc p) (with_last t (set t.last k v)) rest)
+  pub last_step : (k : ℕ) → k < size → next_after size t.header.own t.header.kinds p ≡ next.Last (record { 0 = k }) → (v : Vector) → length v ≡ size → last_kept t.header.own t.clock k v ≡ true → (is_last size (bytes_of line) ≡ true) × (last_read size (bytes_of line) ≡ record { station = k; vector = shapes.padded greatest_size v }) → loaded_by line (under p t rest) ≡ (loaded.Taken, under (suc p) (with_last t (set t.last k v)) rest)
   unfolding taken_as last_taken waits words_of
   last_step k b c v long kept e =
       let words = under p t rest in
@@ -77,11 +77,11 @@ module _ (t : Table) (F : Fresh t) (rest : List ℕ) (p : ℕ) (line : List ℕ)
       let within : at ≤ length plain = omega (arith, room t F rest p, mul-le-mul_right size b) in
       taken_by_lem t F rest p line (next.Last (record { 0 = k })) c no_rows
       ∙ rw (size_is t F rest p, own_is t F rest p, clock_is t F rest p)
-      (ap (λ (f : LastVector). pick (f.ok && (eqb f.station k && last_kept t.header.own t.clock k (take size f.vector))) (took words at (take size f.vector)) (spoilt words)) e
+      (rw e.0 (ap (λ (f : LastVector). pick (eqb f.station k && last_kept t.header.own t.clock k (take size f.vector)) (took words at (take size f.vector)) (spoilt words)) e.1)
       ∙ rw (eq-eqb k k refl, front_of v size long, kept) (took_as t F rest p at v (with_last t (set t.last k v)) (omega arith) within put))
 
   -- `52`
-  pub total_step : (o : ℕ) → o < length t.header.kinds → next_after size t.header.own t.header.kinds p ≡ next.Total o → (z : ℤ) → InRange z → total_kept (total_bound t.clock) (get_or t.header.kinds o 0) z ≡ true → total_read (bytes_of line) ≡ record { ok = true; object = o; high = complement z / word_limit; low = complement z % word_limit } → loaded_by line (under p t rest) ≡ (loaded.Taken, under (suc p) (with_totals t (set t.totals o z)) rest)
+  pub total_step : (o : ℕ) → o < length t.header.kinds → next_after size t.header.own t.header.kinds p ≡ next.Total o → (z : ℤ) → InRange z → total_kept (total_bound t.clock) (get_or t.header.kinds o 0) z ≡ true → (is_total (bytes_of line) ≡ true) × (total_read (bytes_of line) ≡ record { object = o; high = complement z / word_limit; low = complement z % word_limit }) → loaded_by line (under p t rest) ≡ (loaded.Taken, under (suc p) (with_totals t (set t.totals o z)) rest)
   unfolding taken_as total_taken waits words_of
   total_step o b c z range kept e =
       let words = under p t rest in
@@ -91,5 +91,5 @@ module _ (t : Table) (F : Fresh t) (rest : List ℕ) (p : ℕ) (line : List ℕ)
       let same : total_of_words (total_words z) ≡ z = two_read z range in
       taken_by_lem t F rest p line (next.Total o) c no_rows
       ∙ rw (kinds_are t F rest p, clock_is t F rest p)
-      (ap (λ (f : Total). pick (f.ok && (eqb f.object o && total_kept (total_bound t.clock) (get_or t.header.kinds o 0) (total_of_words (f.high ∷ f.low ∷ [])))) (took words at (f.high ∷ f.low ∷ [])) (spoilt words)) e
+      (rw e.0 (ap (λ (f : Total). pick (eqb f.object o && total_kept (total_bound t.clock) (get_or t.header.kinds o 0) (total_of_words (f.high ∷ f.low ∷ []))) (took words at (f.high ∷ f.low ∷ [])) (spoilt words)) e.1)
       ∙ rw (eq-eqb o o refl, same, kept) (took_as t F rest p at (total_words z) (with_totals t (set t.totals o z)) (omega arith) (omega (arith, room t F rest p)) put))

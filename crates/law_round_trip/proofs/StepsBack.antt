@@ -26,7 +26,7 @@ use Rattle.words_layout.proofs.Changing.{wide_set}
 use Rattle.table_rules_clock.specs.ClockTests.{last_kept, total_kept}
 use Rattle.line_hex.specs.Hex.{hex_line}
 use Rattle.line_read.specs.Types.{clock, last_vector, total, line_of}
-use Rattle.line_read.specs.SavedNamed.{clock_read, last_read, total_read}
+use Rattle.line_read.specs.SavedNamed.{is_total, is_last, is_clock, clock_read, last_read, total_read}
 use Rattle.line_read.proofs.SavedNamed.{clock_only_spelling, last_only_spelling, total_only_spelling}
 use Rattle.line_read.proofs.Vectors.{clock_vector, last_vector_lem}
 use Rattle.line_decode.specs.Decoding.{bytes_of}
@@ -169,13 +169,13 @@ module _ (t : Table) (F : Fresh t) (rest : List ℕ) (p : ℕ) (line : List ℕ)
       let f = clock_read size bytes in
       let v : Vector = take size f.vector in
       let long : length v ≡ size = length-take-le size f.vector (omega (arith, clock_vector bytes size f refl, F.sized.few)) in
-      cases f.ok
+      cases (is_clock size bytes)
       (λ ok. inr (record {
         what = v;
         line_is = line_said clock [] v line (clock_only_spelling bytes (decoded_bytes line) size ok);
         fresh = fresh_clock t F v long;
         kept = vector_small clock size bytes (decoded_bytes line) ok;
-        next_is = clock_step t F rest p line none c v long (ap₂ (λ (b : Bool) (u : Vector). record { ok = b; vector = u }) ok (vector_padded clock size bytes ok));
+        next_is = clock_step t F rest p line none c v long (ok, ap (λ (u : Vector). record { vector = u }) (vector_padded clock size bytes ok));
       }))
       (λ bad. inl (ap (λ (o : Loaded × List ℕ). refused o.0) (taken_by_lem t F rest p line next.Clock c no_rows) ∙ rw (size_is t F rest p, bad) refl))
 
@@ -187,16 +187,16 @@ module _ (t : Table) (F : Fresh t) (rest : List ℕ) (p : ℕ) (line : List ℕ)
       let v : Vector = take size f.vector in
       let long : length v ≡ size = length-take-le size f.vector (omega (arith, last_vector_lem bytes size f refl, F.sized.few)) in
       let kept = last_kept t.header.own t.clock k v in
-      cases (f.ok && (eqb f.station k && kept))
-      (λ yes. let ok : f.ok ≡ true = and_left f.ok (eqb f.station k && kept) yes in
-      let both = and_right f.ok (eqb f.station k && kept) yes in
+      cases (is_last size bytes && (eqb f.station k && kept))
+      (λ yes. let ok : is_last size bytes ≡ true = and_left (is_last size bytes) (eqb f.station k && kept) yes in
+      let both = and_right (is_last size bytes) (eqb f.station k && kept) yes in
       let same : f.station ≡ k = eqb-true f.station k (and_left (eqb f.station k) kept both) in
       inr (record {
         what = v;
         line_is = line_said last_vector (f.station ∷ []) v line (last_only_spelling bytes (decoded_bytes line) size ok) ∙ ap (λ (i : ℕ). hex_line (line_of last_vector (i ∷ []) v)) same;
         fresh = fresh_last t F k v long;
         kept = and_right (eqb f.station k) kept both;
-        next_is = last_step t F rest p line none k b c v long (and_right (eqb f.station k) kept both) (ap (λ (g : Bool). record { ok = g; station = f.station; vector = f.vector }) ok ∙ ap₂ (λ (i : ℕ) (u : Vector). record { ok = true; station = i; vector = u }) same (vector_padded last_vector size bytes ok));
+        next_is = last_step t F rest p line none k b c v long (and_right (eqb f.station k) kept both) (ok, ap₂ (λ (i : ℕ) (u : Vector). record { station = i; vector = u }) same (vector_padded last_vector size bytes ok));
       }))
       (λ bad. inl (ap (λ (o : Loaded × List ℕ). refused o.0) (taken_by_lem t F rest p line (next.Last (record { 0 = k })) c no_rows) ∙ rw (size_is t F rest p, own_is t F rest p, clock_is t F rest p, bad) refl))
 
@@ -213,15 +213,15 @@ module _ (t : Table) (F : Fresh t) (rest : List ℕ) (p : ℕ) (line : List ℕ)
       let low_is_lem : complement z % word_limit ≡ f.low = rw code (low_of f.high f.low low) in
       let range : InRange z = said_range (f.high * word_limit + f.low) (omega arith) in
       let kept = total_kept (total_bound t.clock) (get_or t.header.kinds o 0) z in
-      cases (f.ok && (eqb f.object o && kept))
-      (λ yes. let ok : f.ok ≡ true = and_left f.ok (eqb f.object o && kept) yes in
-      let both = and_right f.ok (eqb f.object o && kept) yes in
+      cases (is_total bytes && (eqb f.object o && kept))
+      (λ yes. let ok : is_total bytes ≡ true = and_left (is_total bytes) (eqb f.object o && kept) yes in
+      let both = and_right (is_total bytes) (eqb f.object o && kept) yes in
       let same : f.object ≡ o = eqb-true f.object o (and_left (eqb f.object o) kept both) in
       inr (record {
         what = z;
         line_is = line_said total (f.object ∷ f.high ∷ f.low ∷ []) [] line (total_only_spelling bytes (decoded_bytes line) ok) ∙ rw (same, high_is, low_is_lem) refl;
         fresh = fresh_total t F o z range;
         kept = and_right (eqb f.object o) kept both;
-        next_is = total_step t F rest p line none o b c z range (and_right (eqb f.object o) kept both) (rw (ok, same, high_is, low_is_lem) refl);
+        next_is = total_step t F rest p line none o b c z range (and_right (eqb f.object o) kept both) (ok, rw (same, high_is, low_is_lem) refl);
       }))
       (λ bad. inl (ap (λ (o : Loaded × List ℕ). refused o.0) (taken_by_lem t F rest p line (next.Total o) c no_rows) ∙ rw (kinds_are t F rest p, clock_is t F rest p, bad) refl))
