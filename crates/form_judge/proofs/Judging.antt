@@ -1,4 +1,5 @@
 -- A form judged, way by way; and what the judgement says of the whole of it.
+use Rattle.std.specs.Prelude.{Result, Ok, Err}
 use mathlib.Core.Path.{◌≡◌, refl, sym, ap, subst, ◌∙◌}
 use mathlib.Core.Bool.{true}
 use mathlib.Core.List.{List, [], ◌∷◌}
@@ -18,24 +19,24 @@ use Rattle.form_judge.specs.declared.Judged.TheVariants as judged
 use Rattle.form_judge.specs.Judging.{judged_all, judged_as, judged_by, judged_end, Judging}
 
 -- the ways through verdict
-module _ (l : Loaded) where
-  pub as_refused : (number : ℕ) → l ≡ loaded.Refused number → judged.Refused number ≡ judged_as l
+module _ (l : Result Loaded ℕ) where
+  pub as_refused : (number : ℕ) → l ≡ Err number → judged.Refused number ≡ judged_as l
   unfolding judged_as
   as_refused number e = sym (ap judged_as e)
 
-  pub as_taken : l ≡ loaded.Taken → judged.Open ≡ judged_as l
+  pub as_taken : l ≡ Ok loaded.Taken → judged.Open ≡ judged_as l
   unfolding judged_as
   as_taken e = sym (ap judged_as e)
 
-  pub as_table : l ≡ loaded.Table → judged.Closed ≡ judged_as l
+  pub as_table : l ≡ Ok loaded.Table → judged.Closed ≡ judged_as l
   unfolding judged_as
   as_table e = sym (ap judged_as e)
 
 -- through judge and judge_end
 module _ (words : List ℕ) (before : Judged) where
-  pub open_judged : (line : List ℕ) → before ≡ judged.Open → (l : Loaded) (x : List ℕ) → (l, x) ≡ loaded_by line words → (r : Judged) → r ≡ judged_as l → (r, x) ≡ judged_by line (before, words)
+  pub open_judged : (line : List ℕ) → before ≡ judged.Open → (l : Result Loaded ℕ) (x : List ℕ) → (l, x) ≡ loaded_by line words → (r : Judged) → r ≡ judged_as l → (r, x) ≡ judged_by line (before, words)
   unfolding judged_by
-  open_judged line e l x p r q = ap (λ (v : Judged). (v, x)) q ∙ ap (λ (v : Loaded × List ℕ). (judged_as v.0, v.1)) p ∙ sym (ap (λ (v : Judged). judged_by line (v, words)) e)
+  open_judged line e l x p r q = ap (λ (v : Judged). (v, x)) q ∙ ap (λ (v : Result Loaded ℕ × List ℕ). (judged_as v.0, v.1)) p ∙ sym (ap (λ (v : Judged). judged_by line (v, words)) e)
 
   pub closed_judged : (line : List ℕ) → before ≡ judged.Closed → (judged.Refused 15, words) ≡ judged_by line (before, words)
   unfolding judged_by
@@ -45,9 +46,9 @@ module _ (words : List ℕ) (before : Judged) where
   unfolding judged_by
   refused_judged line number e = sym (ap (λ (v : Judged). judged_by line (v, words)) e)
 
-  pub open_ended : before ≡ judged.Open → (l : Loaded) (x : List ℕ) → (l, x) ≡ load_ended words → (judged.Refused 15, x) ≡ judged_end (before, words)
+  pub open_ended : before ≡ judged.Open → (l : Result Loaded ℕ) (x : List ℕ) → (l, x) ≡ load_ended words → (judged.Refused 15, x) ≡ judged_end (before, words)
   unfolding judged_end
-  open_ended e l x p = ap (λ (v : Loaded × List ℕ). (judged.Refused 15, v.1)) p ∙ sym (ap (λ (v : Judged). judged_end (v, words)) e)
+  open_ended e l x p = ap (λ (v : Result Loaded ℕ × List ℕ). (judged.Refused 15, v.1)) p ∙ sym (ap (λ (v : Judged). judged_end (v, words)) e)
 
   pub closed_ended : before ≡ judged.Closed → (judged.Closed, words) ≡ judged_end (before, words)
   unfolding judged_end
@@ -74,17 +75,17 @@ Tabled judged.Open words = Unit {0}
 Tabled judged.Closed words = holds_table words ≡ true
 Tabled (judged.Refused number) words = Unit {0}
 
-loaded_tabled : (l : Loaded) (words : List ℕ) → (l ≡ loaded.Table → holds_table words ≡ true) → Tabled (judged_as l) words
+loaded_tabled : (l : Result Loaded ℕ) (words : List ℕ) → (l ≡ Ok loaded.Table → holds_table words ≡ true) → Tabled (judged_as l) words
 unfolding judged_as
-loaded_tabled (loaded.Refused number) words f = tt
-loaded_tabled loaded.Taken words f = tt
-loaded_tabled loaded.Table words f = f refl
+loaded_tabled (Err number) words f = tt
+loaded_tabled (Ok loaded.Taken) words f = tt
+loaded_tabled (Ok loaded.Table) words f = f refl
 
 by_tabled : (line : List ℕ) (verdict : Judged) (words : List ℕ) → Tabled verdict words → Tabled (judged_by line (verdict, words)).0 (judged_by line (verdict, words)).1
 unfolding judged_by
 by_tabled line judged.Open words t =
     loaded_tabled (loaded_by line words).0 (loaded_by line words).1
-    (λ e. closes_to_table line words (loaded_by line words).1 (ap (λ (l : Loaded). (l, (loaded_by line words).1)) e))
+    (λ e. closes_to_table line words (loaded_by line words).1 (ap (λ (l : Result Loaded ℕ). (l, (loaded_by line words).1)) e))
 by_tabled line judged.Closed words t = tt
 by_tabled line (judged.Refused number) words t = tt
 
@@ -131,6 +132,6 @@ module _ (a b : List ℕ) (same : bytes_of a ≡ bytes_of b) (type : type_of a �
 
   pub judged_alike : (judging : Judging) → judged_by a judging ≡ judged_by b judging
   unfolding judged_by
-  judged_alike (judged.Open, words) = ap (λ (l : Loaded × List ℕ). (judged_as l.0, l.1)) (loaded_alike words)
+  judged_alike (judged.Open, words) = ap (λ (l : Result Loaded ℕ × List ℕ). (judged_as l.0, l.1)) (loaded_alike words)
   judged_alike (judged.Closed, words) = refl
   judged_alike (judged.Refused number, words) = refl

@@ -1,4 +1,5 @@
 -- What the second program prints, way by way; and that it is the form of a table.
+use Rattle.std.specs.Prelude.{Option, None}
 use mathlib.Core.Path.{◌≡◌, refl, sym, ap, ◌∙◌}
 use mathlib.Core.Bool.{true}
 use mathlib.Core.List.{List, [], ◌∷◌}
@@ -15,8 +16,6 @@ use Rattle.line_read.specs.Named.{printing_read}
 use Rattle.line_decode.specs.Decoding.{bytes_of}
 use Rattle.form_write.specs.Forms.{saved_form, most_form_lines}
 use Rattle.call_question.specs.AnswerBytes.{refusal_bytes}
-use Rattle.call_answer.specs.declared.Answered.{Answered}
-use Rattle.call_answer.specs.declared.Answered.TheVariants as answered
 use Rattle.calls.specs.Answers.{answered_by, lines_for}
 use Rattle.call_answer.specs.OutputLines.{printed_at}
 use Rattle.calls.proofs.Counting.{lines_count}
@@ -42,20 +41,20 @@ resaved_form lines words after e = closed_prints after (closed_is_table lines wo
 
 -- the ways through resave
 module _ (words out : List ℕ) (k : ℕ) (before : Judged) where
-  pub open_resaved : before ≡ judged.Open → (answered.End, (words, out)) ≡ resaved_by before k words out
+  pub open_resaved : before ≡ judged.Open → (None, (words, out)) ≡ resaved_by before k words out
   unfolding resaved_by resaved_lines printed_at
   open_resaved e = sym (ap (λ (v : Judged). resaved_by v k words out) e)
 
-  pub closed_resaved : before ≡ judged.Closed → (r : Answered) (x y : List ℕ) → (r, (x, y)) ≡ answered_by printing k words out → (r, (x, y)) ≡ resaved_by before k words out
+  pub closed_resaved : before ≡ judged.Closed → (r : Option ℕ) (x y : List ℕ) → (r, (x, y)) ≡ answered_by printing k words out → (r, (x, y)) ≡ resaved_by before k words out
   unfolding resaved_by resaved_lines answered_by
   closed_resaved e r x y p =
       p
       ∙ ap (λ (s : List ℕ). ((printed_at (lines_for printing words) k out).0, (s, (printed_at (lines_for printing words) k out).1))) (printing_stays printing words (replicate frame_room 0) (printing_kind printing printing_read_lem) (omega (arith, length-replicate {A = ℕ} frame_room 0)) k)
       ∙ sym (ap (λ (v : Judged). resaved_by v k words out) e)
 
-  pub refused_resaved : (number : ℕ) → before ≡ judged.Refused number → (r : Answered) (y : List ℕ) → (r, y) ≡ printed_at (refusal_bytes number ∷ []) k out → (r, (words, y)) ≡ resaved_by before k words out
+  pub refused_resaved : (number : ℕ) → before ≡ judged.Refused number → (r : Option ℕ) (y : List ℕ) → (r, y) ≡ printed_at (refusal_bytes number ∷ []) k out → (r, (words, y)) ≡ resaved_by before k words out
   unfolding resaved_by resaved_lines
-  refused_resaved number e r y p = ap (λ (q : Answered × List ℕ). (q.0, (words, q.1))) p ∙ sym (ap (λ (v : Judged). resaved_by v k words out) e)
+  refused_resaved number e r y p = ap (λ (q : Option ℕ × List ℕ). (q.0, (words, q.1))) p ∙ sym (ap (λ (v : Judged). resaved_by v k words out) e)
 
 -- there are no more of them than the longest form has
 pub resaved_count : (verdict : Judged) (words : List ℕ) → length (resaved_lines verdict words) ≤ most_form_lines

@@ -1,10 +1,10 @@
 -- What the second program says of a form: "prints it again, or one `ff` line".
+use Rattle.std.specs.Prelude.{Result, Ok, Err, Option}
 use Rattle.std.specs.Prelude.{List, [], ◌∷◌, ℕ}
 use Rattle.call_question.specs.AnswerBytes.{refusal_bytes}
 use Rattle.form_take.specs.declared.Loaded.{Loaded}
 use Rattle.form_take.specs.declared.Loaded.TheVariants as loaded
 use Rattle.form_load.specs.Loading.{loaded_by, load_ended}
-use Rattle.call_answer.specs.declared.Answered.{Answered}
 use Rattle.calls.specs.Answers.{lines_for}
 use Rattle.call_answer.specs.OutputLines.{printed_at}
 use Rattle.form_judge.specs.declared.Judged.{Judged}
@@ -15,10 +15,10 @@ abbrev pub Judging : Type 0
 Judging = Judged × List ℕ
 
 -- a refused line refuses the form, the closing line closes it
-unfoldable pub judged_as : Loaded → Judged
-judged_as (loaded.Refused number) = judged.Refused number
-judged_as loaded.Taken = judged.Open
-judged_as loaded.Table = judged.Closed
+unfoldable pub judged_as : Result Loaded ℕ → Judged
+judged_as (Err number) = judged.Refused number
+judged_as (Ok loaded.Taken) = judged.Open
+judged_as (Ok loaded.Table) = judged.Closed
 
 -- "The second program gives 15 to any line after the closing one." After the first refusal nothing is read any more.
 unfoldable pub judged_by : List ℕ → Judging → Judging
@@ -48,7 +48,7 @@ resaved_lines judged.Closed words = lines_for printing words
 resaved_lines (judged.Refused number) words = refusal_bytes number ∷ []
 
 -- the k-th of them, or the end; the table space stays
-unfoldable pub resaved_by : Judged → ℕ → List ℕ → List ℕ → Answered × (List ℕ × List ℕ)
+unfoldable pub resaved_by : Judged → ℕ → List ℕ → List ℕ → Option ℕ × (List ℕ × List ℕ)
 resaved_by verdict k words out =
     let printed = printed_at (resaved_lines verdict words) k out in
     (printed.0, (words, printed.1))

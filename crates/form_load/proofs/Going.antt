@@ -1,4 +1,5 @@
 -- A load goes on: a line that is taken, the opening line too, leaves a space under load.
+use Rattle.std.specs.Prelude.{Result, Ok, Err}
 use mathlib.Core.Path.{◌≡◌, refl, sym, ap, ◌∙◌, subst}
 use mathlib.Core.Bool.{Bool, true, false, ◌&&◌, cond}
 use mathlib.Core.List.{List, [], ◌∷◌, ◌++◌, append_assoc}
@@ -28,11 +29,8 @@ use Rattle.line_read.proofs.Vectors.{clock_vector, last_vector_lem, row_vector}
 use Rattle.line_read.specs.Named.{opening_read, is_opening}
 use Rattle.line_decode.specs.Decoding.{bytes_of, type_of}
 use Rattle.line_decode.specs.LineKinds.{kind_of}
-use Rattle.call_checked.specs.declared.Opened.{Opened}
-use Rattle.call_checked.specs.declared.Opened.TheVariants as opening
 use Rattle.call_checked.specs.Called.{header_read, opened_as, opened_by}
 use Rattle.call_checked.proofs.Opening.{open_ranges, open_room}
-use Rattle.form_write.specs.declared.Sought.TheVariants as sought
 use Rattle.form_write.specs.Seeking.{counter_at}
 use Rattle.form_row.specs.LoadHead.{LoadHead}
 use Rattle.form_row.specs.Joining.{joined, joins, row_said}
@@ -102,7 +100,7 @@ unfolding counter_at behind_lasts waits
 first_found [] object = refl
 first_found (kind ∷ kinds) object = by (is_counter kind) (first_found kinds (suc object))
   where
-    by : (b : Bool) → waits (behind_lasts (counter_at kinds (suc object) 0)) 0 ≡ true → waits (behind_lasts (cond b (cond (eqb 0 0) (sought.At object) (counter_at kinds (suc object) (0 - 1))) (counter_at kinds (suc object) 0))) 0 ≡ true
+    by : (b : Bool) → waits (behind_lasts (counter_at kinds (suc object) 0)) 0 ≡ true → waits (behind_lasts (cond b (cond (eqb 0 0) (Ok object) (counter_at kinds (suc object) (0 - 1))) (counter_at kinds (suc object) 0))) 0 ≡ true
     by true h = refl
     by false h = h
 
@@ -113,8 +111,8 @@ next_found [] object (suc ahead) h = absurd h
 next_found (kind ∷ kinds) object ahead h = by (is_counter kind) ahead (λ j r. next_found kinds (suc object) j r) h
   where
     by : (b : Bool) (j : ℕ) → ((i : ℕ) → Ready (behind_lasts (counter_at kinds (suc object) i)) → waits (behind_lasts (counter_at kinds (suc object) (suc i))) 0 ≡ true)
-        → Ready (behind_lasts (cond b (cond (eqb j 0) (sought.At object) (counter_at kinds (suc object) (j - 1))) (counter_at kinds (suc object) j)))
-        → waits (behind_lasts (cond b (cond (eqb (suc j) 0) (sought.At object) (counter_at kinds (suc object) (suc j - 1))) (counter_at kinds (suc object) (suc j)))) 0 ≡ true
+        → Ready (behind_lasts (cond b (cond (eqb j 0) (Ok object) (counter_at kinds (suc object) (j - 1))) (counter_at kinds (suc object) j)))
+        → waits (behind_lasts (cond b (cond (eqb (suc j) 0) (Ok object) (counter_at kinds (suc object) (suc j - 1))) (counter_at kinds (suc object) (suc j)))) 0 ≡ true
     by true zero rest r = first_found kinds (suc object)
     by true (suc j) rest r =
         let one : suc j - 1 ≡ j = omega arith in
@@ -208,13 +206,13 @@ module _ (s : List ℕ) (u : under_load s ≡ true) where
       (rw (rows, p) (ap (λ (n : Next). waits n (suc (count_in s))) e))
 
 -- every line that is taken under load
-abbrev GoesOn : Loaded × List ℕ → Type 0
-GoesOn (loaded.Refused number, x) = Unit {0}
-GoesOn (loaded.Taken, x) = under_load x ≡ true
-GoesOn (loaded.Table, x) = Unit {0}
+abbrev GoesOn : Result Loaded ℕ × List ℕ → Type 0
+GoesOn (Err number, x) = Unit {0}
+GoesOn (Ok loaded.Taken, x) = under_load x ≡ true
+GoesOn (Ok loaded.Table, x) = Unit {0}
 
 module _ (s : List ℕ) (u : under_load s ≡ true) where
-  either_on : (b : Bool) (p q : Loaded × List ℕ) → (b ≡ true → GoesOn p) → GoesOn q → GoesOn (pick b p q)
+  either_on : (b : Bool) (p q : Result Loaded ℕ × List ℕ) → (b ≡ true → GoesOn p) → GoesOn q → GoesOn (pick b p q)
   either_on true p q f g = f refl
   either_on false p q f g = g
 
@@ -224,7 +222,7 @@ module _ (s : List ℕ) (u : under_load s ≡ true) where
 
   finished_on : GoesOn (finished s)
   unfolding finished
-  finished_on = either_on (holds_table (set s 6 0)) (loaded.Table, set s 6 0) (spoilt s) (λ t. tt) spoilt_on
+  finished_on = either_on (holds_table (set s 6 0)) (Ok loaded.Table, set s 6 0) (spoilt s) (λ t. tt) spoilt_on
 
   took_or_on : Ready (next_in s) → (b : Bool) (at : ℕ) (new : List ℕ) → totals_at ≤ at → (b ≡ true → at + length new ≤ length s) → GoesOn (pick b (took s at new) (spoilt s))
   unfolding took
@@ -236,7 +234,7 @@ module _ (s : List ℕ) (u : under_load s ≡ true) where
       let row = row_said (size_in s) f in
       let H₀ : LoadHead s = load_head s u in
       let wide : length row ≡ 7 + size_in s = omega (arith, length-take-le (size_in s) f.vector (omega (arith, long, H₀.few))) in
-      either_on (leb f.settled 1 && joins s row) (loaded.Taken, joined s row) (spoilt s)
+      either_on (leb f.settled 1 && joins s row) (Ok loaded.Taken, joined s row) (spoilt s)
       (λ t.
       let room : count_in s < capacity_in s = join_counts s row (joins s row) refl (and_right (leb f.settled 1) (joins s row) t) in
       joined_on s u e (space_for (size_in s) (count_in s)) row (omega arith) (join_room s row (size_in s) (space_for (size_in s) (count_in s)) refl refl H₀ wide room) room)
@@ -319,7 +317,7 @@ module _ (line s : List ℕ) where
   unfolding opened_by begun
   begun_on = by (is_opening (bytes_of line)) (opened_as s (meaning.open_table (length s) (space_for header_of_lem.size header_of_lem.capacity) header_of_lem)) opened_on
     where
-      by : (b : Bool) (p : Opened × List ℕ) → GoesOn (begun p) → GoesOn (begun (pick b p (opening.Refused 1, s)))
+      by : (b : Bool) (p : Result (Unit {0}) ℕ × List ℕ) → GoesOn (begun p) → GoesOn (begun (pick b p (Err 1, s)))
       by true p h = h
       by false p h = tt
 
@@ -328,7 +326,7 @@ module _ (line s : List ℕ) where
   first_on = first_cases line s (λ _ taken. GoesOn taken) begun_on tt (λ _. tt) (kind_of (type_of line))
 
   -- every line that is taken, an opening too
-  pub taken_goes_on : (x : List ℕ) → loaded_by line s ≡ (loaded.Taken, x) → under_load x ≡ true
+  pub taken_goes_on : (x : List ℕ) → loaded_by line s ≡ (Ok loaded.Taken, x) → under_load x ≡ true
   unfolding loaded_by
   taken_goes_on x e = subst GoesOn e (cases (under_load s)
       (λ u. subst GoesOn (sym (picked (under_load s) (taken_as (next_in s) (bytes_of line) s) (first_taken line s) u)) (line_on_lem s u (next_in s) refl (bytes_of line)))

@@ -1,4 +1,5 @@
 -- What comes next, and whether a space is under load.
+use Rattle.std.specs.Prelude.{Result, Ok, Err}
 use mathlib.Core.Path.{◌≡◌, refl, sym, ap, ◌∙◌, subst}
 use mathlib.Core.Bool.{Bool, true, false, ◌&&◌, cond}
 use mathlib.Core.List.{List, [], ◌∷◌}
@@ -16,8 +17,6 @@ use Rattle.words_layout.specs.Layout.{capacity_in, count_in, objects_in, own_in,
 use Rattle.table_rules.specs.TableTests.{kinds_in, sizes_kept}
 use Rattle.table_rules.proofs.Heading.{sizes_out}
 use Rattle.words_tags.specs.declared.Station.{Station}
-use Rattle.form_write.specs.declared.Sought.{Sought}
-use Rattle.form_write.specs.declared.Sought.TheVariants as sought
 use Rattle.form_write.specs.Seeking.{counter_at, other_at}
 use Rattle.form_write.proofs.Places.{counter_below, other_below}
 use Rattle.form_row.specs.LoadHead.{LoadHead}
@@ -28,15 +27,15 @@ use Rattle.form_load.specs.declared.Next.TheVariants as next
 use Rattle.form_load.specs.Loading.{behind_lasts, head_loads, load_waits, next_after, next_in, under_load, waits}
 
 -- behind the last vectors
-pub behind_total : (found : Sought) (object : ℕ) → found ≡ sought.At object → next.Total object ≡ behind_lasts found
+pub behind_total : (found : Result ℕ ℕ) (object : ℕ) → found ≡ Ok object → next.Total object ≡ behind_lasts found
 unfolding behind_lasts
 behind_total found object e = sym (ap behind_lasts e)
 
-pub behind_rows : (found : Sought) (more : ℕ) → found ≡ sought.Behind more → more ≡ 0 → next.Rows ≡ behind_lasts found
+pub behind_rows : (found : Result ℕ ℕ) (more : ℕ) → found ≡ Err more → more ≡ 0 → next.Rows ≡ behind_lasts found
 unfolding behind_lasts
-behind_rows found more e z = sym (ap behind_lasts (e ∙ ap sought.Behind z))
+behind_rows found more e z = sym (ap behind_lasts (e ∙ ap Err z))
 
-pub behind_more : (found : Sought) (more : ℕ) → found ≡ sought.Behind more → (more ≡ 0 → ⊥) → next.Nothing ≡ behind_lasts found
+pub behind_more : (found : Result ℕ ℕ) (more : ℕ) → found ≡ Err more → (more ≡ 0 → ⊥) → next.Nothing ≡ behind_lasts found
 unfolding behind_lasts
 behind_more found zero e n = absurd (n refl)
 behind_more found (suc more) e n = sym (ap behind_lasts e)
@@ -59,7 +58,7 @@ module _ (s : List ℕ) where
           let within : leb (get_or s 6 0) (get_or s 1 0) ≡ true = le-leb (get_or s 6 0) (get_or s 1 0) (omega (arith, ep, en)) in
           rw (ne_eqb (get_or s 6 0) 0 d, ne_eqb (get_or s 6 0) 1 d₁, within) (ap (λ (k : ℕ). next.Last (record { 0 = k })) (e ∙ rw ep refl))
 
-      pub next_behind : n < p → (o : ℕ) → o ≡ get_or s 4 0 → (found : Sought) → found ≡ counter_at (take (7 + o - 7) (drop 7 s)) 0 (p - (n + 1)) → (r : Next) → r ≡ behind_lasts found → r ≡ next_in s
+      pub next_behind : n < p → (o : ℕ) → o ≡ get_or s 4 0 → (found : Result ℕ ℕ) → found ≡ counter_at (take (7 + o - 7) (drop 7 s)) 0 (p - (n + 1)) → (r : Next) → r ≡ behind_lasts found → r ≡ next_in s
       unfolding next_in next_after
       next_behind h o eo found f r e =
           let beyond : leb (get_or s 6 0) (get_or s 1 0) ≡ false = lt-leb (get_or s 6 0) (get_or s 1 0) (omega (arith, ep, en)) in
@@ -177,11 +176,11 @@ Placed size objects (next.Total object) = object < objects
 Placed size objects next.Rows = Unit {0}
 Placed size objects next.Nothing = Unit {0}
 
-placed_behind : (size objects : ℕ) (kinds : List ℕ) (ahead : ℕ) → length kinds ≡ objects → (found : Sought) → found ≡ counter_at kinds 0 ahead → Placed size objects (behind_lasts found)
+placed_behind : (size objects : ℕ) (kinds : List ℕ) (ahead : ℕ) → length kinds ≡ objects → (found : Result ℕ ℕ) → found ≡ counter_at kinds 0 ahead → Placed size objects (behind_lasts found)
 unfolding behind_lasts
-placed_behind size objects kinds ahead e (sought.At object) f = counter_below kinds ahead objects object (sought.At object) e f refl
-placed_behind size objects kinds ahead e (sought.Behind zero) f = tt
-placed_behind size objects kinds ahead e (sought.Behind (suc more)) f = tt
+placed_behind size objects kinds ahead e (Ok object) f = counter_below kinds ahead objects object (Ok object) e f refl
+placed_behind size objects kinds ahead e (Err zero) f = tt
+placed_behind size objects kinds ahead e (Err (suc more)) f = tt
 
 placed_after : (size own objects : ℕ) (kinds : List ℕ) (p : ℕ) → own < size → length kinds ≡ objects → Placed size objects (next_after size own kinds p)
 unfolding next_after

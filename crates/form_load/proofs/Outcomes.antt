@@ -1,4 +1,5 @@
 -- What a line and the end of a form can do to any words, forged ones included.
+use Rattle.std.specs.Prelude.{Result, Ok, Err}
 use mathlib.Core.Path.{◌≡◌, refl, sym, ap, ◌∙◌, subst}
 use mathlib.Core.Bool.{Bool, true, false, ◌&&◌}
 use mathlib.Core.List.{List, [], ◌∷◌}
@@ -18,8 +19,6 @@ use Rattle.line_read.specs.declared.Row.{Row}
 use Rattle.line_read.specs.SavedNamed.{clock_read, closing_read, is_clock, is_closing, is_last, is_row, is_total, last_read, row_read, total_read}
 use Rattle.line_decode.specs.Decoding.{bytes_of, type_of}
 use Rattle.line_decode.specs.LineKinds.{kind_of}
-use Rattle.call_checked.specs.declared.Opened.{Opened}
-use Rattle.call_checked.specs.declared.Opened.TheVariants as opened
 use Rattle.call_checked.specs.Called.{header_read, opened_as, opened_by}
 use Rattle.form_row.specs.Joining.{joined, joins, row_said}
 use Rattle.form_take.specs.declared.Loaded.{Loaded}
@@ -33,13 +32,13 @@ use Rattle.form_load.proofs.Loads.{first_cases}
 use Rattle.form_load.proofs.Nexts.{load_waits_lem, next_none}
 
 -- under load: a wrong line gets 15 and leaves zeros, a table is one by the rules
-abbrev Kept : List ℕ → Loaded × List ℕ → Type 0
-Kept s (loaded.Refused number, x) = (number ≡ 15) × (x ≡ replicate (length s) 0)
-Kept s (loaded.Taken, x) = Unit {0}
-Kept s (loaded.Table, x) = holds_table x ≡ true
+abbrev Kept : List ℕ → Result Loaded ℕ × List ℕ → Type 0
+Kept s (Err number, x) = (number ≡ 15) × (x ≡ replicate (length s) 0)
+Kept s (Ok loaded.Taken, x) = Unit {0}
+Kept s (Ok loaded.Table, x) = holds_table x ≡ true
 
 module _ (s : List ℕ) where
-  either : (b : Bool) (p q : Loaded × List ℕ) → Kept s p → Kept s q → Kept s (pick b p q)
+  either : (b : Bool) (p q : Result Loaded ℕ × List ℕ) → Kept s p → Kept s q → Kept s (pick b p q)
   either true p q f g = f
   either false p q f g = g
 
@@ -51,21 +50,21 @@ module _ (s : List ℕ) where
   unfolding took
   took_kept at new = tt
 
-  joined_kept : (row : List ℕ) → Kept s (loaded.Taken, joined s row)
+  joined_kept : (row : List ℕ) → Kept s (Ok loaded.Taken, joined s row)
   joined_kept row = tt
 
   finished_kept : Kept s (finished s)
   unfolding finished
   finished_kept = cases (holds_table (set s 6 0))
-      (λ t. subst (Kept s) (sym (picked (holds_table (set s 6 0)) (loaded.Table, set s 6 0) (spoilt s) t)) t)
-      (λ t. subst (Kept s) (sym (passed (holds_table (set s 6 0)) (loaded.Table, set s 6 0) (spoilt s) t)) spoilt_kept)
+      (λ t. subst (Kept s) (sym (picked (holds_table (set s 6 0)) (Ok loaded.Table, set s 6 0) (spoilt s) t)) t)
+      (λ t. subst (Kept s) (sym (passed (holds_table (set s 6 0)) (Ok loaded.Table, set s 6 0) (spoilt s) t)) spoilt_kept)
 
   took_or_spoilt : (b : Bool) (at : ℕ) (new : List ℕ) → Kept s (pick b (took s at new) (spoilt s))
   took_or_spoilt b at new = either b (took s at new) (spoilt s) (took_kept at new) spoilt_kept
 
   row_kept_lem : (f : Row) → Kept s (row_taken f s)
   unfolding row_taken
-  row_kept_lem f = either (leb f.settled 1 && joins s (row_said (size_in s) f)) (loaded.Taken, joined s (row_said (size_in s) f)) (spoilt s) (joined_kept (row_said (size_in s) f)) spoilt_kept
+  row_kept_lem f = either (leb f.settled 1 && joins s (row_said (size_in s) f)) (Ok loaded.Taken, joined s (row_said (size_in s) f)) (spoilt s) (joined_kept (row_said (size_in s) f)) spoilt_kept
 
   closed_kept : (bytes : List ℕ) → Kept s (closed bytes s)
   unfolding closed
@@ -90,10 +89,10 @@ module _ (s : List ℕ) where
   line_kept next.Nothing bytes = spoilt_kept
 
 -- no load under way: a refusal changes nothing, and no table comes
-abbrev Left : List ℕ → Loaded × List ℕ → Type 0
-Left s (loaded.Refused number, x) = x ≡ s
-Left s (loaded.Taken, x) = Unit {0}
-Left s (loaded.Table, x) = ⊥
+abbrev Left : List ℕ → Result Loaded ℕ × List ℕ → Type 0
+Left s (Err number, x) = x ≡ s
+Left s (Ok loaded.Taken, x) = Unit {0}
+Left s (Ok loaded.Table, x) = ⊥
 
 module _ (line s : List ℕ) where
   opened_left : (o : meaning.Opening) → Left s (begun (opened_as s o))
@@ -106,7 +105,7 @@ module _ (line s : List ℕ) where
   begun_left = by (is_opening (bytes_of line)) (opened_as s (meaning.open_table (length s) (space_for (header_read (bytes_of line)).size (header_read (bytes_of line)).capacity) (header_read (bytes_of line))))
       (opened_left (meaning.open_table (length s) (space_for (header_read (bytes_of line)).size (header_read (bytes_of line)).capacity) (header_read (bytes_of line))))
     where
-      by : (b : Bool) (p : Opened × List ℕ) → Left s (begun p) → Left s (begun (pick b p (opened.Refused 1, s)))
+      by : (b : Bool) (p : Result (Unit {0}) ℕ × List ℕ) → Left s (begun p) → Left s (begun (pick b p (Err 1, s)))
       by true p h = h
       by false p h = refl
 
@@ -123,15 +122,15 @@ module _ (line s : List ℕ) where
   before_left u = subst (Left s) (sym (passed (under_load s) (taken_as (next_in s) (bytes_of line) s) (first_taken line s) u)) first_left
 
   -- "In a load every wrong line ... gets 15 ... and zeroes the table space"
-  pub wrong_line_zeroes : (number : ℕ) (x : List ℕ) → under_load s ≡ true → loaded_by line s ≡ (loaded.Refused number, x) → (number ≡ 15) × (x ≡ replicate (length s) 0)
+  pub wrong_line_zeroes : (number : ℕ) (x : List ℕ) → under_load s ≡ true → loaded_by line s ≡ (Err number, x) → (number ≡ 15) × (x ≡ replicate (length s) 0)
   wrong_line_zeroes number x u e = subst (Kept s) e (under_kept u)
 
   -- "if that gets 1 or 13, or a saved line comes when no load is under way (15), nothing is written"
-  pub not_begun_changes_nothing : (number : ℕ) (x : List ℕ) → under_load s ≡ false → loaded_by line s ≡ (loaded.Refused number, x) → x ≡ s
+  pub not_begun_changes_nothing : (number : ℕ) (x : List ℕ) → under_load s ≡ false → loaded_by line s ≡ (Err number, x) → x ≡ s
   not_begun_changes_nothing number x u e = subst (Left s) e (before_left u)
 
   -- whatever the words were, what a closing line makes of them is a table by the rules
-  pub closes_to_table : (x : List ℕ) → loaded_by line s ≡ (loaded.Table, x) → holds_table x ≡ true
+  pub closes_to_table : (x : List ℕ) → loaded_by line s ≡ (Ok loaded.Table, x) → holds_table x ≡ true
   closes_to_table x e = cases (under_load s) (λ u. subst (Kept s) e (under_kept u)) (λ u. absurd (subst (Left s) e (before_left u)))
 
 -- "A space under load is no table until its closing line"
@@ -140,8 +139,8 @@ unfolding waits
 under_load_no_table s u = fails (holds_table s) (λ h. clash (waits (next_in s) (count_in s)) (load_waits_lem s u) (sym (ap (λ (n : Next). waits n (count_in s)) (next_none s (table_headed s h).idle))))
 
 -- "so does a form that ends too early"
-pub half_ends_in_zeros : (s : List ℕ) → under_load s ≡ true → load_ended s ≡ (loaded.Refused 15, replicate (length s) 0)
+pub half_ends_in_zeros : (s : List ℕ) → under_load s ≡ true → load_ended s ≡ (Err 15, replicate (length s) 0)
 unfolding load_ended spoilt
 half_ends_in_zeros s u =
-    passed (holds_table s) (loaded.Table, s) (pick (under_load s) (spoilt s) (loaded.Refused 15, s)) (under_load_no_table s u)
-    ∙ picked (under_load s) (spoilt s) (loaded.Refused 15, s) u
+    passed (holds_table s) (Ok loaded.Table, s) (pick (under_load s) (spoilt s) (Err 15, s)) (under_load_no_table s u)
+    ∙ picked (under_load s) (spoilt s) (Err 15, s) u

@@ -1,4 +1,5 @@
 -- Loading: a saved form read a line at a time into a lent space. What each line gets, and the space afterwards.
+use Rattle.std.specs.Prelude.{Result, Ok, Err}
 use Rattle.std.specs.Prelude.{Bool, true, false, ◌&&◌, List, [], ◌∷◌, ℕ, zero, suc, ◌-◌, eqb, leb, get_or, length, set}
 use Rattle.meaning.specs.Tests.{between, every}
 use Rattle.meaning.specs.Table.{greatest_kind}
@@ -9,11 +10,7 @@ use Rattle.line_decode.specs.Decoding.{bytes_of, type_of}
 use Rattle.line_decode.specs.LineKinds.{kind_of}
 use Rattle.line_decode.specs.declared.LineKind.{LineKind}
 use Rattle.line_decode.specs.declared.LineKind.TheVariants as kind
-use Rattle.form_write.specs.declared.Sought.{Sought}
-use Rattle.form_write.specs.declared.Sought.TheVariants as sought
 use Rattle.form_write.specs.Seeking.{counter_at, other_at}
-use Rattle.call_checked.specs.declared.Opened.{Opened}
-use Rattle.call_checked.specs.declared.Opened.TheVariants as opened
 use Rattle.call_checked.specs.Called.{opened_by}
 use Rattle.form_take.specs.declared.Loaded.{Loaded}
 use Rattle.form_take.specs.declared.Loaded.TheVariants as loaded
@@ -22,10 +19,10 @@ use Rattle.form_load.specs.declared.Next.{Next}
 use Rattle.form_load.specs.declared.Next.TheVariants as next
 
 -- Behind the last vectors: a counter's total, or rows and the closing line once all totals are there.
-unfoldable pub behind_lasts : Sought → Next
-behind_lasts (sought.At object) = next.Total object
-behind_lasts (sought.Behind zero) = next.Rows
-behind_lasts (sought.Behind (suc more)) = next.Nothing
+unfoldable pub behind_lasts : Result ℕ ℕ → Next
+behind_lasts (Ok object) = next.Total object
+behind_lasts (Err zero) = next.Rows
+behind_lasts (Err (suc more)) = next.Nothing
 
 -- The line that comes next: "the `10` line; `50` D; for each other k ascending `51` ...; for each counter ascending `52` ...; for each row in order
 -- `53` ...; `5f`". Nothing is next where the progress is out of range.
@@ -63,7 +60,7 @@ unfoldable pub under_load : List ℕ → Bool
 under_load words = head_loads words && load_waits words
 
 -- A line to a space under load, by what comes next.
-unfoldable pub taken_as : Next → List ℕ → List ℕ → Loaded × List ℕ
+unfoldable pub taken_as : Next → List ℕ → List ℕ → Result Loaded ℕ × List ℕ
 taken_as next.Clock bytes words = clock_taken bytes words
 taken_as (next.Last station) bytes words = last_taken station.0 bytes words
 taken_as (next.Total object) bytes words = total_taken object bytes words
@@ -71,30 +68,30 @@ taken_as next.Rows bytes words = row_or_closing bytes words
 taken_as next.Nothing bytes words = spoilt words
 
 -- "A load begins with its opening line; if that gets 1 or 13 ... nothing is written."
-unfoldable pub begun : Opened × List ℕ → Loaded × List ℕ
-begun (opened.Refused number, words) = (loaded.Refused number, words)
-begun (opened.Fresh, words) = (loaded.Taken, set words 6 1)
+unfoldable pub begun : Result (Unit {0}) ℕ × List ℕ → Result Loaded ℕ × List ℕ
+begun (Err number, words) = (Err number, words)
+begun (Ok none, words) = (Ok loaded.Taken, set words 6 1)
 
 -- "or a saved line comes when no load is under way (15), nothing is written"; any other line is no opening (1).
-unfoldable pub first_as : LineKind → List ℕ → List ℕ → Loaded × List ℕ
+unfoldable pub first_as : LineKind → List ℕ → List ℕ → Result Loaded ℕ × List ℕ
 first_as kind.Opening line words = begun (opened_by line words)
-first_as kind.Operation line words = (loaded.Refused 1, words)
-first_as kind.Issue line words = (loaded.Refused 1, words)
-first_as kind.Settling line words = (loaded.Refused 1, words)
-first_as kind.Question line words = (loaded.Refused 1, words)
-first_as kind.Printing line words = (loaded.Refused 1, words)
-first_as kind.Saved line words = (loaded.Refused 15, words)
-first_as kind.Unknown line words = (loaded.Refused 1, words)
+first_as kind.Operation line words = (Err 1, words)
+first_as kind.Issue line words = (Err 1, words)
+first_as kind.Settling line words = (Err 1, words)
+first_as kind.Question line words = (Err 1, words)
+first_as kind.Printing line words = (Err 1, words)
+first_as kind.Saved line words = (Err 15, words)
+first_as kind.Unknown line words = (Err 1, words)
 
-unfoldable pub first_taken : List ℕ → List ℕ → Loaded × List ℕ
+unfoldable pub first_taken : List ℕ → List ℕ → Result Loaded ℕ × List ℕ
 first_taken line words = first_as (kind_of (type_of line)) line words
 
 -- The next line of a form to a space.
-unfoldable pub loaded_by : List ℕ → List ℕ → Loaded × List ℕ
+unfoldable pub loaded_by : List ℕ → List ℕ → Result Loaded ℕ × List ℕ
 loaded_by line words = pick (under_load words) (taken_as (next_in words) (bytes_of line) words) (first_taken line words)
 
 -- Lines one after the other, the first first: what each gets, and the space in the end.
-unfoldable pub loaded_all : List (List ℕ) → List ℕ → List Loaded × List ℕ
+unfoldable pub loaded_all : List (List ℕ) → List ℕ → List (Result Loaded ℕ) × List ℕ
 loaded_all [] words = ([], words)
 loaded_all (line ∷ lines) words =
     let first = loaded_by line words in
@@ -102,6 +99,6 @@ loaded_all (line ∷ lines) words =
     (first.0 ∷ rest.0, rest.1)
 
 -- The form is at its end: nothing where its table is there; 15 where it "ends before its closing line", or where no load was.
-unfoldable pub load_ended : List ℕ → Loaded × List ℕ
+unfoldable pub load_ended : List ℕ → Result Loaded ℕ × List ℕ
 load_ended words =
-    pick (holds_table words) (loaded.Table, words) (pick (under_load words) (spoilt words) (loaded.Refused 15, words))
+    pick (holds_table words) (Ok loaded.Table, words) (pick (under_load words) (spoilt words) (Err 15, words))

@@ -1,4 +1,5 @@
 -- The definition computed on lines written as texts: forms that load, and for each rule that a line can break lines that break it, beside lines that keep it.
+use Rattle.std.specs.Prelude.{Result, Ok, Err, None}
 use Rattle.std.specs.Prelude.{◌≡◌, refl, List, [], ◌∷◌, ◌++◌, map, ℕ, pos, negsuc, length, replicate, take}
 use Prim.Native.String.{String}
 use Rattle.meaning.specs.Computing.{all_words}
@@ -41,31 +42,31 @@ after form = (loaded_all (map line_saying form) space).1
 -- A line, and what it gets and leaves of a space.
 pub record Case : Type 0 where
   pub given : List ℕ
-  pub told : List ℕ → Loaded × List ℕ
+  pub told : List ℕ → Result Loaded ℕ × List ℕ
 
 infix 4 ◌gets◌
-abbrev pub ◌gets◌ : List ℕ → (List ℕ → Loaded × List ℕ) → Case
+abbrev pub ◌gets◌ : List ℕ → (List ℕ → Result Loaded ℕ × List ℕ) → Case
 line gets told = record { given = line; told = told }
 
 -- 15, and zeros for the whole space.
-abbrev pub wrong : List ℕ → Loaded × List ℕ
-wrong words = (loaded.Refused 15, replicate (length words) 0)
+abbrev pub wrong : List ℕ → Result Loaded ℕ × List ℕ
+wrong words = (Err 15, replicate (length words) 0)
 
 -- A number, and every word as it was.
-abbrev pub unbegun : ℕ → List ℕ → Loaded × List ℕ
-unbegun number words = (loaded.Refused number, words)
+abbrev pub unbegun : ℕ → List ℕ → Result Loaded ℕ × List ℕ
+unbegun number words = (Err number, words)
 
 -- Taken, and taken as the closing line: what is then written the forms that load show.
-abbrev pub taken : List ℕ → Loaded × List ℕ
-taken words = (loaded.Taken, [])
+abbrev pub taken : List ℕ → Result Loaded ℕ × List ℕ
+taken words = (Ok loaded.Taken, [])
 
-abbrev pub closes : List ℕ → Loaded × List ℕ
-closes words = (loaded.Table, [])
+abbrev pub closes : List ℕ → Result Loaded ℕ × List ℕ
+closes words = (Ok loaded.Table, [])
 
-unfoldable pub seen : Loaded × List ℕ → Loaded × List ℕ
-seen (loaded.Refused number, words) = (loaded.Refused number, words)
-seen (loaded.Taken, words) = (loaded.Taken, [])
-seen (loaded.Table, words) = (loaded.Table, [])
+unfoldable pub seen : Result Loaded ℕ × List ℕ → Result Loaded ℕ × List ℕ
+seen (Err number, words) = (Err number, words)
+seen (Ok loaded.Taken, words) = (Ok loaded.Taken, [])
+seen (Ok loaded.Table, words) = (Ok loaded.Table, [])
 
 -- Each of these lines, given to a space, gets and leaves what is told.
 abbrev pub Right : List ℕ → List Case → Type 0
@@ -385,7 +386,7 @@ tags =
     ∷ []
 
 -- What each of these lines gets behind a row, and leaves.
-abbrev pub behind : String → List String → List (Loaded × List ℕ)
+abbrev pub behind : String → List String → List (Result Loaded ℕ × List ℕ)
 behind first lines = map (λ (line : String). seen (loaded_by (line_saying line) (after (two_sets ++ (first ∷ []))))) lines
 
 -- The second row may stand behind the first; the first behind the second, and each behind itself, may not.
@@ -440,9 +441,9 @@ full =
 -- All of it.
 pub record Loading : Type 0 where
   -- "Loading what a table wrote gives that table back"
-  pub session_loads : loaded_all (map line_saying session_form) space ≡ (loaded.Taken ∷ loaded.Taken ∷ loaded.Taken ∷ loaded.Taken ∷ loaded.Table ∷ [], words_of session_saved)
+  pub session_loads : loaded_all (map line_saying session_form) space ≡ (Ok loaded.Taken ∷ Ok loaded.Taken ∷ Ok loaded.Taken ∷ Ok loaded.Taken ∷ Ok loaded.Table ∷ [], words_of session_saved)
   pub counters_load : loaded_all (map line_saying counters_form) space
-      ≡ (loaded.Taken ∷ loaded.Taken ∷ loaded.Taken ∷ loaded.Taken ∷ loaded.Taken ∷ loaded.Taken ∷ loaded.Table ∷ [], words_of counters_table)
+      ≡ (Ok loaded.Taken ∷ Ok loaded.Taken ∷ Ok loaded.Taken ∷ Ok loaded.Taken ∷ Ok loaded.Taken ∷ Ok loaded.Taken ∷ Ok loaded.Table ∷ [], words_of counters_table)
   pub not_begun_lem : Right (words_of session_saved) not_begun
   pub clock_lines_lem : Right (after (take 1 session_form)) clock_lines
   pub first_vector_lem : Right (after three_stations) first_vector
@@ -470,7 +471,7 @@ pub record Loading : Type 0 where
   pub full_rows : Right (after (two_rows ++ ("53000101000000000700000000" ∷ "53000201000000000700000000" ∷ []))) full
   -- "a form that ends before its closing line": at a table, under load, and where no load was
   pub ends : load_ended (words_of session_saved) ∷ load_ended (after (take 4 session_form)) ∷ load_ended space ∷ load_ended (7 ∷ []) ∷ []
-      ≡ (loaded.Table, words_of session_saved) ∷ wrong space ∷ unbegun 15 space ∷ unbegun 15 (7 ∷ []) ∷ []
+      ≡ (Ok loaded.Table, words_of session_saved) ∷ wrong space ∷ unbegun 15 space ∷ unbegun 15 (7 ∷ []) ∷ []
 
 pub loading : Loading
 unfolding all_words line_words word_words load_words

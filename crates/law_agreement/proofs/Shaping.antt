@@ -19,8 +19,10 @@ use Rattle.line_hex.proofs.Bytes.{all_bytes_drop}
 use Rattle.line_shape.specs.Reading.{entries, fields_read, has_shape, padded, size_of, starts_with, unread}
 use Rattle.line_shape.specs.Shapes.{length_of, read}
 use Rattle.line_shape.specs.declared.Fields.{Fields}
+use Rattle.line_read.specs.Types as lines
+use Rattle.line_shape.specs.Reading.{is_shaped}
 use Rattle.line_read.specs.Types.{Line, head_of, is_of, line_read, opening, operation, issue, settling, question, printing, longest}
-use Rattle.line_read.specs.Named.{count_of, stations_of, opening_of, issue_read, opening_read, operation_read, printing_read, question_read, settling_read}
+use Rattle.line_read.specs.Named.{count_of, stations_of, opening_of, issue_read, is_issue, opening_read, is_opening, operation_read, is_operation, printing_read, question_read, is_question, settling_read, is_settling}
 use Rattle.line_read.proofs.Named.{operation_stations, operation_vector_length}
 use Rattle.line_decode.specs.Decoding.{bytes_of}
 use Rattle.call_checked.specs.Called.{frame_of}
@@ -41,48 +43,37 @@ line_of type more line = by (is_line longest line)
     by false = sym (none_of type more)
 
 -- a line of vectors: at most 16 entries, and its shape
-fields_ok : (type : Line) → type.each ≡ 4 → (stations : ℕ) (bytes : List ℕ) → (line_read type stations bytes).ok ≡ (leb stations greatest_size && is_of type stations bytes)
-unfolding line_read fields_read is_of
-fields_ok type four stations bytes = by (leb stations greatest_size && has_shape type.type_byte (size_of (head_of type) stations) bytes)
-    ∙ ap (λ (w : ℕ). leb stations greatest_size && has_shape type.type_byte (length_of (head_of type) + w * stations) bytes) (sym four)
-  where
-    whole : Fields
-    whole = record { ok = true; head = padded 6 (read (head_of type) bytes); vector = padded greatest_size (entries stations (drop (length_of (head_of type)) bytes)) }
-
-    by : (b : Bool) → (pick b whole unread).ok ≡ b
-    by true = refl
-    by false = refl
+fields_ok : (type : Line) → type.each ≡ 4 → (stations : ℕ) (bytes : List ℕ) → lines.is_line_of type stations bytes ≡ (leb stations greatest_size && is_of type stations bytes)
+unfolding lines.is_line_of is_shaped is_of
+fields_ok type four stations bytes =
+    ap (λ (w : ℕ). leb stations greatest_size && has_shape type.type_byte (length_of (head_of type) + w * stations) bytes) (sym four)
 
 module _ (line : List ℕ) where
   abbrev bytes : List ℕ
   bytes = bytes_of line
 
-  pub opening_shaped : (opening_read bytes).ok ≡ is_line_of opening (count_of bytes) line
-  unfolding opening_read
-  opening_shaped = by (is_of opening (count_of bytes) bytes) ∙ sym (line_of opening (count_of bytes) line)
-    where
-      by : (b : Bool) → (pick b (opening_of true (padded 6 (read (head_of opening) bytes))) (opening_of false [])).ok ≡ b
-      by true = refl
-      by false = refl
+  pub opening_shaped : is_opening bytes ≡ is_line_of opening (count_of bytes) line
+  unfolding is_opening
+  opening_shaped = sym (line_of opening (count_of bytes) line)
 
-  pub issue_shaped : (issue_read bytes).ok ≡ is_line_of issue 0 line
-  unfolding issue_read
+  pub issue_shaped : is_issue bytes ≡ is_line_of issue 0 line
+  unfolding is_issue
   issue_shaped = fields_ok issue refl 0 bytes ∙ sym (line_of issue 0 line)
 
-  pub settling_shaped : (settling_read bytes).ok ≡ is_line_of settling 0 line
-  unfolding settling_read
+  pub settling_shaped : is_settling bytes ≡ is_line_of settling 0 line
+  unfolding is_settling
   settling_shaped = fields_ok settling refl 0 bytes ∙ sym (line_of settling 0 line)
 
-  pub question_shaped : (question_read bytes).ok ≡ is_line_of question 0 line
-  unfolding question_read
+  pub question_shaped : is_question bytes ≡ is_line_of question 0 line
+  unfolding is_question
   question_shaped = fields_ok question refl 0 bytes ∙ sym (line_of question 0 line)
 
   pub printing_shaped : printing_read bytes ≡ is_line_of printing 0 line
   unfolding printing_read
   printing_shaped = sym (line_of printing 0 line)
 
-  pub operation_shaped : (operation_read bytes).ok ≡ (leb (stations_of bytes) greatest_size && is_line_of operation (stations_of bytes) line)
-  unfolding operation_read
+  pub operation_shaped : is_operation bytes ≡ (leb (stations_of bytes) greatest_size && is_line_of operation (stations_of bytes) line)
+  unfolding is_operation
   operation_shaped = fields_ok operation refl (stations_of bytes) bytes ∙ ap (λ (b : Bool). leb (stations_of bytes) greatest_size && b) (sym (line_of operation (stations_of bytes) line))
 
 -- fields of one byte and of four
@@ -134,7 +125,7 @@ module _ (bytes : List ℕ) (h : AllBytes bytes) where
       by false = small_zeros greatest_size
 
   -- "a frame's N not the table's" is all that is left of 1 where the line is right
-  pub frame_shaped : (operation_read bytes).ok ≡ true → (header : Header) → well_shaped header (frame_of (operation_read bytes)) ≡ eqb (stations_of bytes) header.size
+  pub frame_shaped : is_operation bytes ≡ true → (header : Header) → well_shaped header (frame_of (operation_read bytes)) ≡ eqb (stations_of bytes) header.size
   unfolding well_shaped frame_of
   frame_shaped ok header =
       let f = operation_read bytes in

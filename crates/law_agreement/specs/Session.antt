@@ -1,4 +1,5 @@
 -- The definitions computed: 01's session, and the lines that it has none of.
+use Rattle.std.specs.Prelude.{Option, Some, None}
 use Rattle.std.specs.Prelude.{◌≡◌, refl, List, [], ◌∷◌, map, ℕ, zero, suc, length, take}
 use Prim.Native.String.{String}
 use Rattle.meaning.specs.Table.{kind_in, zeros}
@@ -24,8 +25,6 @@ use Rattle.form_write.specs.Session.{session_form}
 use Rattle.call_question.specs.AnswerBytes.{list_bytes, refusal_bytes, reply_bytes}
 use Rattle.call_checked.specs.Called.{frame_bytes, frame_of, header_read, local_of, opened_as, opened_by, received_as, received_on, settled_as, settled_on}
 use Rattle.call_answer.specs.Answering.{answer_on, done_bytes, issue_answer, issued_bytes, opened_bytes, question_answer, received_bytes, second_opening, settled_bytes}
-use Rattle.call_answer.specs.declared.Answered.{Answered}
-use Rattle.call_answer.specs.declared.Answered.TheVariants as answered
 use Rattle.line_read.specs.Named.{printing_read}
 use Rattle.calls.specs.Answers.{answer_of, first_answer, answered_by, lines_for, longest_answer, space_after}
 use Rattle.call_answer.specs.OutputLines.{printed_at}
@@ -37,9 +36,9 @@ printed_for [] words = []
 printed_for (line ∷ rest) words = map hex_line (lines_for line words) ∷ printed_for rest (answer_of line words).1
 
 -- The same through `answer`, from a space for answers that holds zeros: its output lines one after the other until the end, and the table space then.
-unfoldable pub said_after : Answered × (List ℕ × List ℕ) → List (List ℕ) × List ℕ → List (List ℕ) × List ℕ
-said_after (answered.Line n, (words, out)) behind = (take n out ∷ behind.0, behind.1)
-said_after (answered.End, (words, out)) behind = ([], words)
+unfoldable pub said_after : Option ℕ × (List ℕ × List ℕ) → List (List ℕ) × List ℕ → List (List ℕ) × List ℕ
+said_after (Some n, (words, out)) behind = (take n out ∷ behind.0, behind.1)
+said_after (None, (words, out)) behind = ([], words)
 
 -- From a place on, asked so many times at most.
 unfoldable pub said_from : ℕ → List ℕ → ℕ → List ℕ → List (List ℕ) × List ℕ

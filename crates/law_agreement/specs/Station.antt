@@ -6,7 +6,7 @@ use Rattle.meaning.specs.History.{Event}
 use Rattle.words_layout.specs.Layout.{table_of}
 use Rattle.line_hex.specs.Choice.{pick}
 use Rattle.line_hex.specs.Hex.{hex_line}
-use Rattle.line_read.specs.Named.{issue_read, operation_read, settling_read}
+use Rattle.line_read.specs.Named.{issue_read, is_issue, operation_read, is_operation, settling_read, is_settling}
 use Rattle.line_decode.specs.Decoding.{bytes_of}
 use Rattle.calls.specs.Calls as calls
 use Rattle.call_checked.specs.Called.{frame_bytes, frame_of, local_of}
@@ -36,11 +36,11 @@ frame_fits line words out =
 -- What a call is in the meaning: none where its line is misshapen (1), or a frame would have no room (10).
 unfoldable pub events_of : Call → List ℕ → List Event
 events_of (receives line) words =
-    pick (operation_read (bytes_of line)).ok (history.receives (frame_of (operation_read (bytes_of line))) ∷ []) []
+    pick (is_operation (bytes_of line)) (history.receives (frame_of (operation_read (bytes_of line))) ∷ []) []
 events_of (issues line out) words =
-    pick ((issue_read (bytes_of line)).ok && frame_fits line words out) (history.issues (local_of (issue_read (bytes_of line))) ∷ []) []
+    pick (is_issue (bytes_of line) && frame_fits line words out) (history.issues (local_of (issue_read (bytes_of line))) ∷ []) []
 events_of (settles line) words =
-    pick (settling_read (bytes_of line)).ok (history.settles (settling_read (bytes_of line)).limit ∷ []) []
+    pick (is_settling (bytes_of line)) (history.settles (settling_read (bytes_of line)).limit ∷ []) []
 
 unfoldable pub events_of_all : List Call → List ℕ → List Event
 events_of_all [] words = []

@@ -1,4 +1,5 @@
 -- The second program prints the form that it read, and every form that a table saves is printed again.
+use Rattle.std.specs.Prelude.{Result, Ok, Err}
 use mathlib.Core.Path.{◌≡◌, refl, sym, ap, subst, ◌∙◌}
 use mathlib.Core.Bool.{true, false}
 use mathlib.Core.List.{List, [], ◌∷◌, ◌++◌, map}
@@ -37,17 +38,17 @@ never_shut : (lines : List (List ℕ)) (number : ℕ) (words after : List ℕ) �
 never_shut lines number words after e = shut (judged.Refused number) (ap (λ (j : Judging). j.0) (sym (refused_stays lines number words) ∙ e))
 
 -- a form is closed by its last line, and by no other
-last_closes : (l : Loaded) (x after : List ℕ) → ◌≡◌ {A = Judging} (judged_as l, x) (judged.Closed, after) → ◌≡◌ {A = Loaded × List ℕ} (l, x) (loaded.Table, after)
+last_closes : (l : Result Loaded ℕ) (x after : List ℕ) → ◌≡◌ {A = Judging} (judged_as l, x) (judged.Closed, after) → ◌≡◌ {A = Result Loaded ℕ × List ℕ} (l, x) (Ok loaded.Table, after)
 unfolding judged_as
-last_closes (loaded.Refused number) x after e = absurd (shut (judged.Refused number) (ap (λ (j : Judging). j.0) e))
-last_closes loaded.Taken x after e = absurd (shut judged.Open (ap (λ (j : Judging). j.0) e))
-last_closes loaded.Table x after e = ap (λ (j : Judging). (loaded.Table, j.1)) e
+last_closes (Err number) x after e = absurd (shut (judged.Refused number) (ap (λ (j : Judging). j.0) e))
+last_closes (Ok loaded.Taken) x after e = absurd (shut judged.Open (ap (λ (j : Judging). j.0) e))
+last_closes (Ok loaded.Table) x after e = ap (λ (j : Judging). (Ok loaded.Table, j.1)) e
 
-goes_on : (l : Loaded) (x next : List ℕ) (lines : List (List ℕ)) (after : List ℕ) → judged_all (next ∷ lines) (judged_as l, x) ≡ (judged.Closed, after) → (l ≡ loaded.Taken) × (judged_all (next ∷ lines) (judged.Open, x) ≡ (judged.Closed, after))
+goes_on : (l : Result Loaded ℕ) (x next : List ℕ) (lines : List (List ℕ)) (after : List ℕ) → judged_all (next ∷ lines) (judged_as l, x) ≡ (judged.Closed, after) → (l ≡ Ok loaded.Taken) × (judged_all (next ∷ lines) (judged.Open, x) ≡ (judged.Closed, after))
 unfolding judged_as judged_all judged_by
-goes_on (loaded.Refused number) x next lines after e = absurd (never_shut lines number x after e)
-goes_on loaded.Taken x next lines after e = (refl, e)
-goes_on loaded.Table x next lines after e = absurd (never_shut lines 15 x after e)
+goes_on (Err number) x next lines after e = absurd (never_shut lines number x after e)
+goes_on (Ok loaded.Taken) x next lines after e = (refl, e)
+goes_on (Ok loaded.Table) x next lines after e = absurd (never_shut lines 15 x after e)
 
 closed_loads : (lines : List (List ℕ)) (words after : List ℕ) → judged_all lines (judged.Open, words) ≡ (judged.Closed, after) → Loads lines words after
 unfolding judged_all judged_by
@@ -60,9 +61,9 @@ closed_loads (line ∷ next ∷ lines) words after e =
 loads_closed : (lines : List (List ℕ)) (words after : List ℕ) → Loads lines words after → judged_all lines (judged.Open, words) ≡ (judged.Closed, after)
 unfolding judged_all judged_by judged_as
 loads_closed [] words after h = absurd h
-loads_closed (line ∷ []) words after h = ap (λ (l : Loaded × List ℕ). (judged_as l.0, l.1)) h
+loads_closed (line ∷ []) words after h = ap (λ (l : Result Loaded ℕ × List ℕ). (judged_as l.0, l.1)) h
 loads_closed (line ∷ next ∷ lines) words after h =
-    ap (λ (l : Loaded). judged_all (next ∷ lines) (judged_as l, (loaded_by line words).1)) h.0 ∙ loads_closed (next ∷ lines) (loaded_by line words).1 after h.1
+    ap (λ (l : Result Loaded ℕ). judged_all (next ∷ lines) (judged_as l, (loaded_by line words).1)) h.0 ∙ loads_closed (next ∷ lines) (loaded_by line words).1 after h.1
 
 end_shut : (verdict : Judged) (x after : List ℕ) → judged_end (verdict, x) ≡ (judged.Closed, after) → ◌≡◌ {A = Judging} (verdict, x) (judged.Closed, after)
 unfolding judged_end

@@ -1,4 +1,5 @@
 -- What one call of the library brings to a station.
+use Rattle.std.specs.Prelude.{Err}
 use mathlib.Core.Path.{◌≡◌, refl, sym, ap, ◌∙◌, subst}
 use mathlib.Core.Bool.{Bool, true, false, ◌&&◌}
 use mathlib.Core.List.{List, [], ◌∷◌, ◌++◌, append-nil}
@@ -17,10 +18,8 @@ use Rattle.words_layout.specs.Layout.{table_of}
 use Rattle.line_hex.specs.Choice.{pick}
 use Rattle.line_hex.specs.Hex.{hex_line}
 use Rattle.line_put.specs.Writing.{line_written}
-use Rattle.line_read.specs.Named.{issue_read, operation_read}
+use Rattle.line_read.specs.Named.{issue_read, is_issue, operation_read, is_operation}
 use Rattle.line_decode.specs.Decoding.{bytes_of}
-use Rattle.call_checked.specs.declared.Issued.TheVariants as issued
-use Rattle.call_checked.specs.declared.Received.TheVariants as received
 use Rattle.call_checked.specs.Called.{frame_bytes, frame_of, framed_as, issued_as, issued_on, local_of, received_as, received_on}
 use Rattle.calls.specs.Calls as calls
 use Rattle.calls.specs.Calls.{received_by}
@@ -51,12 +50,12 @@ module _ (words : List ℕ) (s : Station) (H : Holds words s) where
 
   receive_accepted : (line : List ℕ) → (after_all (events_of (receives line) words) s).accepted ≡ accepted_by_call (receives line) words ++ s.accepted
   unfolding events_of after_all received_by received_on accepted_by_call number_of_received
-  receive_accepted line = rw H.held (by (operation_read (bytes_of line)).ok)
+  receive_accepted line = rw H.held (by (is_operation (bytes_of line)))
     where
       frame : Frame
       frame = frame_of (operation_read (bytes_of line))
 
-      by : (b : Bool) → (after_all (pick b (history.receives frame ∷ []) []) s).accepted ≡ pick (eqb (number_of_received (pick b (received_as words (meaning.receive (table_of words) frame)) (received.Refused 1, words)).0) 0) (frame.operation ∷ []) [] ++ s.accepted
+      by : (b : Bool) → (after_all (pick b (history.receives frame ∷ []) []) s).accepted ≡ pick (eqb (number_of_received (pick b (received_as words (meaning.receive (table_of words) frame)) (Err 1, words)).0) 0) (frame.operation ∷ []) [] ++ s.accepted
       by true = frame_taken frame
       by false = refl
 
@@ -78,13 +77,13 @@ module _ (words : List ℕ) (s : Station) (H : Holds words s) where
 
   issue_accepted : (line out : List ℕ) → (after_all (events_of (issues line out) words) s).accepted ≡ accepted_by_call (issues line out) words ++ s.accepted
   unfolding events_of after_all frame_fits calls.issued_by issued_on accepted_by_call number_of_issued
-  issue_accepted line out = rw H.held (by (issue_read (bytes_of line)).ok (leb (length (hex_line (frame_bytes (issued_by (table_of words) local)))) (length out)) (issue_taken local out))
+  issue_accepted line out = rw H.held (by (is_issue (bytes_of line)) (leb (length (hex_line (frame_bytes (issued_by (table_of words) local)))) (length out)) (issue_taken local out))
     where
       local : Local
       local = local_of (issue_read (bytes_of line))
 
       by : (b c : Bool) → (pick c (after (history.issues local) s) s).accepted ≡ pick (eqb (number_of_issued (issued_as words out (meaning.issue (table_of words) local)).0) 0) (issued_by (table_of words) local ∷ []) [] ++ s.accepted →
-          (after_all (pick (b && c) (history.issues local ∷ []) []) s).accepted ≡ pick (eqb (number_of_issued (pick b (issued_as words out (meaning.issue (table_of words) local)) (issued.Refused 1, (words, out))).0) 0) (issued_by (table_of words) local ∷ []) [] ++ s.accepted
+          (after_all (pick (b && c) (history.issues local ∷ []) []) s).accepted ≡ pick (eqb (number_of_issued (pick b (issued_as words out (meaning.issue (table_of words) local)) (Err 1, (words, out))).0) 0) (issued_by (table_of words) local ∷ []) [] ++ s.accepted
       by true true h = h
       by true false h = h
       by false c h = refl

@@ -1,4 +1,5 @@
 -- A table that is saved and loaded goes on with its history.
+use Rattle.std.specs.Prelude.{Result}
 use mathlib.Core.Path.{◌≡◌, refl, sym, ap, ◌∙◌, subst}
 use mathlib.Core.Bool.{true, false}
 use mathlib.Core.List.{List, [], ◌∷◌, ◌++◌, map}
@@ -17,7 +18,7 @@ use Rattle.arrival.proofs.Kept.{laid_back, laid_held}
 use Rattle.line_hex.specs.Choice.{pick}
 use Rattle.line_hex.specs.Hex.{hex_line}
 use Rattle.line_read.specs.Types.{question}
-use Rattle.line_read.specs.Named.{question_read}
+use Rattle.line_read.specs.Named.{question_read, is_question}
 use Rattle.line_decode.specs.Decoding.{bytes_of, type_of}
 use Rattle.form_write.specs.Forms.{row_lines, saved_form, total_lines}
 use Rattle.form_write.proofs.Agreeing.{equal_lines}
@@ -48,7 +49,7 @@ use Rattle.law_continued.proofs.Called.{called_accepted, called_holds}
 all_loaded : (lines : List (List ℕ)) (words after : List ℕ) → Loads lines words after → (loaded_all lines words).1 ≡ after
 unfolding loaded_all
 all_loaded [] words after l = absurd l
-all_loaded (line ∷ []) words after l = ap (λ (p : Loaded × List ℕ). p.1) l
+all_loaded (line ∷ []) words after l = ap (λ (p : Result Loaded ℕ × List ℕ). p.1) l
 all_loaded (line ∷ next ∷ lines) words after l = all_loaded (next ∷ lines) (loaded_by line words).1 after l.1
 
 -- "Loading what a table wrote gives that table back": word for word in a space of any contents, and what lies beyond it stays.
@@ -127,7 +128,7 @@ module _ (line before words : List ℕ) (O : OpenedBy line before words) (acts :
       let reply : meaning.ask (table_of now) most_rows asked ≡ meaning.meant header (accepted_by_acts acts words []) most_rows asked =
       reply_meant header (opening_in_range line before words (opened_fresh line before words O)) events now continued_holds most_rows asked ∙ ap (λ (l : List Operation). meaning.meant header l most_rows asked) accepted_is in
       question_on asking now continued_holds.held type
-      ∙ ap (λ (r : meaning.Reply). (pick (question_read (bytes_of asking)).ok (reply_bytes r) (refusal_bytes 1), now)) reply
+      ∙ ap (λ (r : meaning.Reply). (pick (is_question (bytes_of asking)) (reply_bytes r) (refusal_bytes 1), now)) reply
 
 -- two tables to which any of this befell, with the same objects, which accepted the same operations
 module _ (line before words : List ℕ) (O : OpenedBy line before words) (acts : List Act) (fits : Fitting acts words)
@@ -170,7 +171,7 @@ module _ (line before words : List ℕ) (O : OpenedBy line before words) (acts :
   continued_answers asking type =
       let asked = asked_from (question_read (bytes_of asking)).object (question_read (bytes_of asking)).question (question_read (bytes_of asking)).value in
       ap (λ (q : List ℕ × List ℕ). q.0) (question_on asking here H.held type)
-      ∙ ap (λ (r : meaning.Reply). pick (question_read (bytes_of asking)).ok (reply_bytes r) (refusal_bytes 1))
+      ∙ ap (λ (r : meaning.Reply). pick (is_question (bytes_of asking)) (reply_bytes r) (refusal_bytes 1))
       (reply_agrees (header_read (bytes_of line)) ranged (events line before words O acts fits) here H (header_read (bytes_of line')) ranged' (events line' before' words' O' acts' fits') there H' objects forth back most_rows asked)
       ∙ sym (ap (λ (q : List ℕ × List ℕ). q.0) (question_on asking there H'.held type))
 

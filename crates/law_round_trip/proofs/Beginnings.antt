@@ -1,4 +1,5 @@
 -- A load takes its lines exactly as long as they are the beginning of a form: a line with which they begin none is refused at once.
+use Rattle.std.specs.Prelude.{Result, Ok, Err}
 use mathlib.Core.Path.{◌≡◌, refl, sym, ap, ap₂, ◌∙◌, subst}
 use mathlib.Core.Bool.{true, false, ◌&&◌, false≢true}
 use mathlib.Core.Logic.{◌⊎◌, inl, inr, ⊎_elim}
@@ -72,7 +73,7 @@ pub record OneMore (p : ℕ) (t : Table) (rest : List ℕ) : Type 0 where
   pub table : Table
   pub header_is : table.header ≡ t.header
   pub keeps : Keeps (suc p) table
-  pub taken : loaded_by line (under p t rest) ≡ (loaded.Taken, under (suc p) table rest)
+  pub taken : loaded_by line (under p t rest) ≡ (Ok loaded.Taken, under (suc p) table rest)
 
 module _ (p : ℕ) (t : Table) (rest : List ℕ) (K : Keeps p t) (u : under_load (under p t rest) ≡ true) where
   F : Fresh t
@@ -153,7 +154,7 @@ record Goes (words : List ℕ) (all : ℕ) : Type 0 where
   mid : List ℕ
   after : List ℕ
   takes : TakesAll lines words mid
-  closes : loaded_by line mid ≡ (loaded.Table, after)
+  closes : loaded_by line mid ≡ (Ok loaded.Table, after)
   long : length after ≡ all
 
 -- no load has come further than the lines ahead of the rows
@@ -238,13 +239,13 @@ some_taken : (lines : List (List ℕ)) (line space words : List ℕ) → under_l
 some_taken [] line space words idle h = taken_begins line [] space words idle h
 some_taken (first ∷ lines) line space words idle h = taken_begins first (lines ++ (line ∷ [])) space words idle h
 
-no_first_closes : {A : Type 0} (o : Loaded) → (refused o ≡ true) ⊎ A → (A → o ≡ loaded.Taken) → o ≡ loaded.Table → ⊥
+no_first_closes : {A : Type 0} (o : Result Loaded ℕ) → (refused o ≡ true) ⊎ A → (A → o ≡ Ok loaded.Taken) → o ≡ Ok loaded.Table → ⊥
 no_first_closes o (inl e) k h = false≢true (sym (ap refused h) ∙ e)
 no_first_closes o (inr a) k h = false≢true (ap is_taken (sym h ∙ k a))
 
-some_closed : (lines : List (List ℕ)) (line space words : List ℕ) → under_load space ≡ false → TakesAll lines space words → (loaded_by line words).0 ≡ loaded.Table → length (loaded_by line words).1 ≡ length space
+some_closed : (lines : List (List ℕ)) (line space words : List ℕ) → under_load space ≡ false → TakesAll lines space words → (loaded_by line words).0 ≡ Ok loaded.Table → length (loaded_by line words).1 ≡ length space
 some_closed [] line space words idle e h =
-    absurd (no_first_closes (loaded_by line space).0 (opening_back line space idle) (λ T. ap (λ (o : Loaded × List ℕ). o.0) T.next_is) (ap (λ (w : List ℕ). (loaded_by line w).0) e ∙ h))
+    absurd (no_first_closes (loaded_by line space).0 (opening_back line space idle) (λ T. ap (λ (o : Result Loaded ℕ × List ℕ). o.0) T.next_is) (ap (λ (w : List ℕ). (loaded_by line w).0) e ∙ h))
 some_closed (first ∷ lines) line space words idle taken h = closed_in first lines space words line idle taken h
 
 -- 15 is for "a saved line that is misplaced, misshapen or breaks a table rule": behind lines that were all taken by a space with no load under way, a line
@@ -257,10 +258,10 @@ each_rule_at_its_line lines space words line idle taken =
       begins_taken = λ B. let L = form_loads space ((lines ++ (line ∷ [])) ++ (B.next ∷ B.more)) idle B.form in
           let P = fronts lines line (B.next ∷ B.more) space L.0 (subst (λ (ls : List (List ℕ)). Loads ls space L.0) (append_assoc lines (line ∷ []) (B.next ∷ B.more)) L.1) in
           ap (λ (w : List ℕ). (loaded_by line w).0) (takes_one lines space words P.0 taken P.1) ∙ P.2.0;
-      closes_form = λ h. is_form (lines ++ (line ∷ [])) space next idle (then_closed lines line space words next taken (ap (λ (o : Loaded). (o, next)) h)) (some_closed lines line space words idle taken h);
+      closes_form = λ h. is_form (lines ++ (line ∷ [])) space next idle (then_closed lines line space words next taken (ap (λ (o : Result Loaded ℕ). (o, next)) h)) (some_closed lines line space words idle taken h);
       form_closes = λ f. let L = form_loads space (lines ++ (line ∷ [])) idle f in
           let P = fronts lines line [] space L.0 L.1 in
-          ap (λ (w : List ℕ). (loaded_by line w).0) (takes_one lines space words P.0 taken P.1) ∙ ap (λ (o : Loaded × List ℕ). o.0) P.2;
+          ap (λ (w : List ℕ). (loaded_by line w).0) (takes_one lines space words P.0 taken P.1) ∙ ap (λ (o : Result Loaded ℕ × List ℕ). o.0) P.2;
     }
 
 -- And the number is 15, with zeros in every word, where the lines with that one behind them are no form and begin none.
@@ -272,9 +273,9 @@ wrong_at_once first lines space words line idle taken none no_form = by (loaded_
     E : ByItsForm space (first ∷ lines) line words
     E = each_rule_at_its_line (first ∷ lines) space words line idle taken
 
-    by : (o : Loaded × List ℕ) → loaded_by line words ≡ o → o ≡ spoilt words
-    by (loaded.Refused number, x) e =
+    by : (o : Result Loaded ℕ × List ℕ) → loaded_by line words ≡ o → o ≡ spoilt words
+    by (Err number, x) e =
         let Z = wrong_line_zeroes line words number x (all_taken first lines space words idle taken).0 e in
-        ap₂ (λ (n : ℕ) (w : List ℕ). (loaded.Refused n, w)) Z.0 Z.1
-    by (loaded.Taken, x) e = absurd (none (E.taken_begins (ap (λ (p : Loaded × List ℕ). p.0) e)))
-    by (loaded.Table, x) e = absurd (no_form (E.closes_form (ap (λ (p : Loaded × List ℕ). p.0) e)))
+        ap₂ (λ (n : ℕ) (w : List ℕ). (Err n, w)) Z.0 Z.1
+    by (Ok loaded.Taken, x) e = absurd (none (E.taken_begins (ap (λ (p : Result Loaded ℕ × List ℕ). p.0) e)))
+    by (Ok loaded.Table, x) e = absurd (no_form (E.closes_form (ap (λ (p : Result Loaded ℕ × List ℕ). p.0) e)))

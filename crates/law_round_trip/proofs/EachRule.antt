@@ -1,4 +1,5 @@
 -- 15 is for "a saved line that ... breaks a table rule": each rule is asked at the line that can break it, and when the closing line comes none is left.
+use Rattle.std.specs.Prelude.{Result, Ok}
 use mathlib.Core.Path.{◌≡◌, refl, sym, ap, ap₂, ◌∙◌, subst}
 use mathlib.Core.Bool.{Bool, true, false, false≢true}
 use mathlib.Core.Logic.{◌⊎◌, inl, inr}
@@ -54,7 +55,7 @@ pub record SoFar (n : ℕ) (words : List ℕ) : Type 0 where
 abbrev Outcome : ℕ → List ℕ → List ℕ → Type 0
 Outcome n line words =
     (refused (loaded_by line words).0 ≡ true)
-    ⊎ ((((loaded_by line words).0 ≡ loaded.Taken) × SoFar n (loaded_by line words).1) ⊎ (((loaded_by line words).0 ≡ loaded.Table) × (length (loaded_by line words).1 ≡ n)))
+    ⊎ ((((loaded_by line words).0 ≡ Ok loaded.Taken) × SoFar n (loaded_by line words).1) ⊎ (((loaded_by line words).0 ≡ Ok loaded.Table) × (length (loaded_by line words).1 ≡ n)))
 
 module _ (all : ℕ) (line : List ℕ) (p : ℕ) (t : Table) (rest : List ℕ) (long : space_for t.header.size t.header.capacity + length rest ≡ all) (K : Keeps p t) (u : under_load (under p t rest) ≡ true) where
   F : Fresh t
@@ -72,12 +73,12 @@ module _ (all : ℕ) (line : List ℕ) (p : ℕ) (t : Table) (rest : List ℕ) (
   from spell make keeps q same k (inl e) = inl e
   from spell make keeps q same k (inr T) =
       inr (inl (
-        ap (λ (o : Loaded × List ℕ). o.0) T.next_is,
+        ap (λ (o : Result Loaded ℕ × List ℕ). o.0) T.next_is,
         record {
           progress = q;
           table = make T.what;
           rest = rest;
-          words_are = ap (λ (o : Loaded × List ℕ). o.1) T.next_is;
+          words_are = ap (λ (o : Result Loaded ℕ × List ℕ). o.1) T.next_is;
           long = ap (λ (h : Header). space_for h.size h.capacity + length rest) (same T.what) ∙ long;
           keeps = k T.what T.kept T.fresh;
         },
@@ -107,8 +108,8 @@ module _ (all : ℕ) (line : List ℕ) (p : ℕ) (t : Table) (rest : List ℕ) (
   by_closing (inl e) = inl e
   by_closing (inr C) =
       inr (inr (
-        ap (λ (o : Loaded × List ℕ). o.0) C.next_is,
-        ap (λ (o : Loaded × List ℕ). length o.1) C.next_is ∙ length-append (words_of t) rest ∙ ap (λ (k : ℕ). k + length rest) (words_long t F.well F.sized) ∙ long,
+        ap (λ (o : Result Loaded ℕ × List ℕ). o.0) C.next_is,
+        ap (λ (o : Result Loaded ℕ × List ℕ). length o.1) C.next_is ∙ length-append (words_of t) rest ∙ ap (λ (k : ℕ). k + length rest) (words_long t F.well F.sized) ∙ long,
       ))
 
   by_row : coming ≡ next.Rows → Outcome all line words
@@ -130,12 +131,12 @@ outcome n line words u S =
     (by_next n line S.progress S.table S.rest S.long S.keeps (subst (λ (w : List ℕ). under_load w ≡ true) S.words_are u)
     (next_after S.table.header.size S.table.header.own S.table.header.kinds S.progress) refl)
 
-taken_so_far : (n : ℕ) (line words : List ℕ) → Outcome n line words → (loaded_by line words).0 ≡ loaded.Taken → SoFar n (loaded_by line words).1
+taken_so_far : (n : ℕ) (line words : List ℕ) → Outcome n line words → (loaded_by line words).0 ≡ Ok loaded.Taken → SoFar n (loaded_by line words).1
 taken_so_far n line words (inl e) h = absurd (false≢true (sym (ap refused h) ∙ e))
 taken_so_far n line words (inr (inl T)) h = T.1
 taken_so_far n line words (inr (inr C)) h = absurd (false≢true (ap is_taken (sym C.0 ∙ h)))
 
-closed_long : (n : ℕ) (line words : List ℕ) → Outcome n line words → (loaded_by line words).0 ≡ loaded.Table → length (loaded_by line words).1 ≡ n
+closed_long : (n : ℕ) (line words : List ℕ) → Outcome n line words → (loaded_by line words).0 ≡ Ok loaded.Table → length (loaded_by line words).1 ≡ n
 closed_long n line words (inl e) h = absurd (false≢true (sym (ap refused h) ∙ e))
 closed_long n line words (inr (inl T)) h = absurd (false≢true (ap is_taken (sym h ∙ T.0)))
 closed_long n line words (inr (inr C)) h = C.1
@@ -145,13 +146,13 @@ behind_opening : (n : ℕ) (lines : List (List ℕ)) (words after : List ℕ) �
 behind_opening n [] words after u S h = (subst (λ (w : List ℕ). under_load w ≡ true) h u, subst (SoFar n) h S)
 behind_opening n (line ∷ lines) words after u S h =
     let next = (loaded_by line words).1 in
-    behind_opening n lines next after (taken_goes_on line words next (ap (λ (o : Loaded). (o, next)) h.0)) (taken_so_far n line words (outcome n line words u S) h.0) h.1
+    behind_opening n lines next after (taken_goes_on line words next (ap (λ (o : Result Loaded ℕ). (o, next)) h.0)) (taken_so_far n line words (outcome n line words u S) h.0) h.1
 
-took_it : {A : Type 0} (o : Loaded) → o ≡ loaded.Taken → (refused o ≡ true) ⊎ A → A
+took_it : {A : Type 0} (o : Result Loaded ℕ) → o ≡ Ok loaded.Taken → (refused o ≡ true) ⊎ A → A
 took_it o h (inl e) = absurd (false≢true (sym (ap refused h) ∙ e))
 took_it o h (inr T) = T
 
-opened_so_far : (line space : List ℕ) → under_load space ≡ false → (loaded_by line space).0 ≡ loaded.Taken → SoFar (length space) (loaded_by line space).1
+opened_so_far : (line space : List ℕ) → under_load space ≡ false → (loaded_by line space).0 ≡ Ok loaded.Taken → SoFar (length space) (loaded_by line space).1
 unfolding opened
 opened_so_far line space idle h =
     let T = took_it (loaded_by line space).0 h (opening_back line space idle) in
@@ -160,7 +161,7 @@ opened_so_far line space idle h =
       progress = 1;
       table = opened T.what;
       rest = kept line space idle;
-      words_are = ap (λ (o : Loaded × List ℕ). o.1) T.next_is;
+      words_are = ap (λ (o : Result Loaded ℕ × List ℕ). o.1) T.next_is;
       long = ap (λ (l : List ℕ). needed + length l) T.kept.1 ∙ omega (arith, length-drop needed space, T.kept.2);
       keeps = keeps_opened T.what T.kept.0 T.fresh;
     }
@@ -169,7 +170,7 @@ opened_so_far line space idle h =
 pub all_taken : (first : List ℕ) (lines : List (List ℕ)) (space words : List ℕ) → under_load space ≡ false → TakesAll (first ∷ lines) space words → (under_load words ≡ true) × SoFar (length space) words
 all_taken first lines space words idle taken =
     let next = (loaded_by first space).1 in
-    behind_opening (length space) lines next words (taken_goes_on first space next (ap (λ (o : Loaded). (o, next)) taken.0)) (opened_so_far first space idle taken.0) taken.1
+    behind_opening (length space) lines next words (taken_goes_on first space next (ap (λ (o : Result Loaded ℕ). (o, next)) taken.0)) (opened_so_far first space idle taken.0) taken.1
 
 module _ (n : ℕ) (words : List ℕ) (S : SoFar n words) (rows : next_in words ≡ next.Rows) where
   abbrev u : Table
@@ -194,7 +195,7 @@ module _ (n : ℕ) (words : List ℕ) (S : SoFar n words) (rows : next_in words 
   table_held : holds_table (load_over words) ≡ true
   table_held = rw whole (laid_held u is_table_lem S.rest)
 
-  closes : (line : List ℕ) → is_closing (bytes_of line) ≡ true → (closing_read (bytes_of line)).rows ≡ count_in words → loaded_by line words ≡ (loaded.Table, load_over words)
+  closes : (line : List ℕ) → is_closing (bytes_of line) ≡ true → (closing_read (bytes_of line)).rows ≡ count_in words → loaded_by line words ≡ (Ok loaded.Table, load_over words)
   unfolding is_row is_line_of closing_line
   closes line ok count =
       let f = closing_read (bytes_of line) in
@@ -203,10 +204,10 @@ module _ (n : ℕ) (words : List ℕ) (S : SoFar n words) (rows : next_in words 
       let no_row : is_row u.header.size (bytes_of line) ≡ false = subst (λ (bytes : List ℕ). is_row u.header.size bytes ≡ false) spelt (no_shape (head_of row) u.header.size (closing_line f.rows) (closing_first f.rows)) in
       ap (loaded_by line) S.words_are
       ∙ close_step u fresh S.rest S.progress line come no_row (ok, ap (λ (n : ℕ). record { rows = n }) many) is_table_lem
-      ∙ ap (λ (w : List ℕ). (loaded.Table, w)) (sym whole)
+      ∙ ap (λ (w : List ℕ). (Ok loaded.Table, w)) (sym whole)
 
 -- so many words are left by a line that closes the form
-pub closed_in : (first : List ℕ) (lines : List (List ℕ)) (space words line : List ℕ) → under_load space ≡ false → TakesAll (first ∷ lines) space words → (loaded_by line words).0 ≡ loaded.Table → length (loaded_by line words).1 ≡ length space
+pub closed_in : (first : List ℕ) (lines : List (List ℕ)) (space words line : List ℕ) → under_load space ≡ false → TakesAll (first ∷ lines) space words → (loaded_by line words).0 ≡ Ok loaded.Table → length (loaded_by line words).1 ≡ length space
 closed_in first lines space words line idle taken h =
     let A = all_taken first lines space words idle taken in
     closed_long (length space) line words (outcome (length space) line words A.0 A.1) h
@@ -217,5 +218,5 @@ table_before_closing first lines space words idle taken rows = table_held (lengt
 
 -- So a closing line in its place is refused for its count alone.
 pub rules_kept : (first : List ℕ) (lines : List (List ℕ)) (space words line : List ℕ) → under_load space ≡ false → TakesAll (first ∷ lines) space words → next_in words ≡ next.Rows
-    → is_closing (bytes_of line) ≡ true → (closing_read (bytes_of line)).rows ≡ count_in words → loaded_by line words ≡ (loaded.Table, load_over words)
+    → is_closing (bytes_of line) ≡ true → (closing_read (bytes_of line)).rows ≡ count_in words → loaded_by line words ≡ (Ok loaded.Table, load_over words)
 rules_kept first lines space words line idle taken rows = closes (length space) words (all_taken first lines space words idle taken).1 rows line

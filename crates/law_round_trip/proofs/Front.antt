@@ -1,4 +1,5 @@
 -- The lines of a form ahead of its rows, given to the space that its opening line left.
+use Rattle.std.specs.Prelude.{Ok}
 use mathlib.Core.Path.{◌≡◌, refl, sym, ap, ap₂, ◌∙◌, subst}
 use mathlib.Core.Bool.{Bool, true, false, not, ◌&&◌, cond}
 use mathlib.Core.List.{List, [], ◌∷◌, map}
@@ -193,7 +194,7 @@ module _ (t : Table) (is : is_table t ≡ true) (rest : List ℕ) where
   fresh_opened = fresh_parts (zeros size) no_last no_totals [] zeros_long no_last_long no_last_many no_totals_many no_totals_range tt (omega arith)
 
   -- `50`
-  pub clock_taken_lem : loaded_by (hex_line (clock_line t.clock)) (under 1 (opened t.header) rest) ≡ (loaded.Taken, under 2 (lasts_at 0) rest)
+  pub clock_taken_lem : loaded_by (hex_line (clock_line t.clock)) (under 1 (opened t.header) rest) ≡ (Ok loaded.Taken, under 2 (lasts_at 0) rest)
   unfolding opened next_after
   clock_taken_lem = clock_step (opened t.header) fresh_opened rest 1 (hex_line (clock_line t.clock)) refl refl t.clock F.clock_length (rw heard (clock_back t is))
     where
@@ -258,7 +259,7 @@ module _ (t : Table) (is : is_table t ≡ true) (rest : List ℕ) where
       let heard : bytes_of line ≡ last_line k v = bytes_back (last_line k v) (replicate longest 0) (last_bytes k v) (length-replicate {A = ℕ} longest 0) (omega (arith, last_short t is k b)) in
       let step = last_step (lasts_at k) (fresh_lasts k) rest (suc (suc (others own k))) line refl k b (next_last k b other) v (last_known t is k b).0 (last_held k b other) (rw heard (last_back t is k b)) in
       rw q (first_taken_lem line (map hex_line (lines_of not_own last_line (suc k) (drop (suc k) t.last))) (under (suc (suc (others own k))) (lasts_at k) rest) (under (suc (suc (others own (suc k)))) (lasts_at (suc k)) rest) behind_lasts_lem
-      (step ∙ ap₂ (λ (i : ℕ) (l : List Vector). (loaded.Taken, under (suc (suc i)) (parts t.clock l no_totals []) rest)) (sym number) (mixed_set t.last no_last [] k here there))
+      (step ∙ ap₂ (λ (i : ℕ) (l : List Vector). (Ok loaded.Taken, under (suc (suc i)) (parts t.clock l no_totals []) rest)) (sym number) (mixed_set t.last no_last [] k here there))
       (lasts_from n (suc k) (omega arith)))))
 
   pub lasts_taken : TakesAll (map hex_line (last_lines t)) (under 2 (lasts_at 0) rest) behind_lasts_lem
@@ -333,7 +334,7 @@ module _ (t : Table) (is : is_table t ≡ true) (rest : List ℕ) where
       let heard : bytes_of line ≡ total_line k z = bytes_back (total_line k z) (replicate longest 0) (total_bytes k z) (length-replicate {A = ℕ} longest 0) (omega (arith, total_short t is k z)) in
       let step = total_step (totals_at_lem k) (fresh_totals k) rest (counted k) line refl k b (next_total_lem k b q) z (each_range t.totals W.range k here) (total_held k b) (rw heard (total_back t is k z b)) in
       rw q (first_taken_lem line rest_lines (under (counted k) (totals_at_lem k) rest) (under (counted (suc k)) (totals_at_lem (suc k)) rest) behind_totals_lem
-      (step ∙ ap₂ (λ (i : ℕ) (l : List ℤ). (loaded.Taken, under i (parts t.clock t.last l []) rest)) (sym progress) (mixed_set t.totals no_totals (pos 0) k here there))
+      (step ∙ ap₂ (λ (i : ℕ) (l : List ℤ). (Ok loaded.Taken, under i (parts t.clock t.last l []) rest)) (sym progress) (mixed_set t.totals no_totals (pos 0) k here there))
       (totals_from n (suc k) (omega arith))))
       (λ q. let number : counters kinds (suc k) ≡ counters kinds k = counters_next kinds k b ∙ step_passed k q in
       rw q (subst (λ (w : List ℕ). TakesAll rest_lines w behind_totals_lem)

@@ -1,4 +1,5 @@
 -- A list that is changed into another from the front on, and lines taken one after the other.
+use Rattle.std.specs.Prelude.{Result, Ok}
 use mathlib.Core.Path.{◌≡◌, refl, sym, ap, ap₂, ◌∙◌, subst}
 use mathlib.Core.List.{List, [], ◌∷◌, ◌++◌, append-nil}
 use Prim.Native.Nat.{ℕ, zero, suc, ◌<◌}
@@ -28,14 +29,14 @@ mixed_same {A} (x ∷ a) (y ∷ b) d zero h g e = ap (λ (z : A). z ∷ b) (sym 
 mixed_same {A} (x ∷ a) (y ∷ b) d (suc k) h g e = ap (λ (l : List A). x ∷ l) (mixed_same a b d k (omega arith) (omega arith) e)
 
 -- lines taken one after the other
-pub first_taken_lem : (line : List ℕ) (lines : List (List ℕ)) (words next after : List ℕ) → loaded_by line words ≡ (loaded.Taken, next) → TakesAll lines next after → TakesAll (line ∷ lines) words after
-first_taken_lem line lines words next after e f = (ap (λ (p : Loaded × List ℕ). p.0) e, subst (λ (w : List ℕ). TakesAll lines w after) (sym (ap (λ (p : Loaded × List ℕ). p.1) e)) f)
+pub first_taken_lem : (line : List ℕ) (lines : List (List ℕ)) (words next after : List ℕ) → loaded_by line words ≡ (Ok loaded.Taken, next) → TakesAll lines next after → TakesAll (line ∷ lines) words after
+first_taken_lem line lines words next after e f = (ap (λ (p : Result Loaded ℕ × List ℕ). p.0) e, subst (λ (w : List ℕ). TakesAll lines w after) (sym (ap (λ (p : Result Loaded ℕ × List ℕ). p.1) e)) f)
 
 pub then_taken : (a b : List (List ℕ)) (words next after : List ℕ) → TakesAll a words next → TakesAll b next after → TakesAll (a ++ b) words after
 then_taken [] b words next after e f = subst (λ (w : List ℕ). TakesAll b w after) (sym e) f
 then_taken (line ∷ a) b words next after e f = (e.0, then_taken a b (loaded_by line words).1 next after e.1 f)
 
-pub then_closed : (a : List (List ℕ)) (line words next after : List ℕ) → TakesAll a words next → loaded_by line next ≡ (loaded.Table, after) → Loads (a ++ (line ∷ [])) words after
+pub then_closed : (a : List (List ℕ)) (line words next after : List ℕ) → TakesAll a words next → loaded_by line next ≡ (Ok loaded.Table, after) → Loads (a ++ (line ∷ [])) words after
 then_closed [] line words next after e f = ap (loaded_by line) e ∙ f
 then_closed (first ∷ []) line words next after e f = (e.0, then_closed [] line (loaded_by first words).1 next after e.1 f)
 then_closed (first ∷ second ∷ a) line words next after e f = (e.0, then_closed (second ∷ a) line (loaded_by first words).1 next after e.1 f)

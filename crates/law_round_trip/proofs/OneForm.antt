@@ -1,4 +1,5 @@
 -- "a form that loads is the form that its table saves", and two tables with the same form are the same table.
+use Rattle.std.specs.Prelude.{Result}
 use mathlib.Core.Path.{◌≡◌, refl, sym, ap, ap₂, ◌∙◌, subst}
 use mathlib.Core.Bool.{true, false, not}
 use mathlib.Core.List.{List, [], ◌∷◌, ◌++◌, map}
@@ -53,7 +54,7 @@ form_that_loads (line ∷ lines) words after idle h =
 -- what a form leaves in a space is one
 pub loads_one : (lines : List (List ℕ)) (words a b : List ℕ) → Loads lines words a → Loads lines words b → a ≡ b
 loads_one [] words a b e f = absurd e
-loads_one (line ∷ []) words a b e f = ap (λ (o : Loaded × List ℕ). o.1) (sym e ∙ f)
+loads_one (line ∷ []) words a b e f = ap (λ (o : Result Loaded ℕ × List ℕ). o.1) (sym e ∙ f)
 loads_one (line ∷ second ∷ lines) words a b e f = loads_one (second ∷ lines) (loaded_by line words).1 a b e.1 f.1
 
 idle_zeros : (n : ℕ) → under_load (replicate n 0) ≡ false

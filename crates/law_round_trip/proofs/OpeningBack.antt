@@ -1,4 +1,5 @@
 -- What an opening line said that begins a load.
+use Rattle.std.specs.Prelude.{Result}
 use mathlib.Core.Path.{◌≡◌, refl, ap, ◌∙◌}
 use mathlib.Core.Bool.{true, false}
 use mathlib.Core.Logic.{◌⊎◌, inl, inr}
@@ -77,12 +78,12 @@ module _ (line words : List ℕ) (idle : under_load words ≡ false) where
         kept = (open_ranges words (space_for header.size header.capacity) header refusal refl (eqb-true refusal 0 none), refl, open_room words (space_for header.size header.capacity) header refusal refl (eqb-true refusal 0 none));
         next_is = is ∙ rw (ok, none) refl;
       }))
-      (λ some. inl (ap (λ (o : Loaded × List ℕ). refused o.0) is ∙ rw (ok, some) refl)))
-      (λ bad. inl (ap (λ (o : Loaded × List ℕ). refused o.0) is ∙ rw bad refl))
+      (λ some. inl (ap (λ (o : Result Loaded ℕ × List ℕ). refused o.0) is ∙ rw (ok, some) refl)))
+      (λ bad. inl (ap (λ (o : Result Loaded ℕ × List ℕ). refused o.0) is ∙ rw bad refl))
 
   pub opening_back : Back
   unfolding first_taken
   opening_back = first_cases line words (λ _ taken. loaded_by line words ≡ taken → Back) opened_back
-      (λ is. inl (ap (λ (o : Loaded × List ℕ). refused o.0) is))
-      (λ _ is. inl (ap (λ (o : Loaded × List ℕ). refused o.0) is))
+      (λ is. inl (ap (λ (o : Result Loaded ℕ × List ℕ). refused o.0) is))
+      (λ _ is. inl (ap (λ (o : Result Loaded ℕ × List ℕ). refused o.0) is))
       (kind_of (type_of line)) first

@@ -1,4 +1,5 @@
 -- Which line of a form comes at which progress, and that all have come where rows are next.
+use Rattle.std.specs.Prelude.{Result, Ok, Err}
 use mathlib.Core.Path.{◌≡◌, refl, sym, ap, ◌∙◌}
 use mathlib.Core.Bool.{Bool, true, false, cond, false≢true}
 use mathlib.Core.List.{List, [], ◌∷◌}
@@ -13,8 +14,6 @@ use Rattle.meaning.proofs.Tests.{cases}
 use Rattle.meaning.proofs.TableFacts.{header_facts}
 use Rattle.meaning.proofs.TableRules.{opened_is_table}
 use Rattle.form_write.specs.Seeking.{counter_at, other_at}
-use Rattle.form_write.specs.declared.Sought.{Sought}
-use Rattle.form_write.specs.declared.Sought.TheVariants as sought
 use Rattle.form_load.specs.declared.Next.{Next}
 use Rattle.form_load.specs.declared.Next.TheVariants as next
 use Rattle.form_load.specs.Loading.{behind_lasts, next_after}
@@ -70,17 +69,17 @@ is_rows (next.Total object) = false
 is_rows next.Rows = true
 is_rows next.Nothing = false
 
-no_clock : (found : Sought) → is_clock (behind_lasts found) ≡ true → ⊥
+no_clock : (found : Result ℕ ℕ) → is_clock (behind_lasts found) ≡ true → ⊥
 unfolding behind_lasts
-no_clock (sought.At object) e = false≢true e
-no_clock (sought.Behind zero) e = false≢true e
-no_clock (sought.Behind (suc more)) e = false≢true e
+no_clock (Ok object) e = false≢true e
+no_clock (Err zero) e = false≢true e
+no_clock (Err (suc more)) e = false≢true e
 
-no_last : (found : Sought) → is_last (behind_lasts found) ≡ true → ⊥
+no_last : (found : Result ℕ ℕ) → is_last (behind_lasts found) ≡ true → ⊥
 unfolding behind_lasts
-no_last (sought.At object) e = false≢true e
-no_last (sought.Behind zero) e = false≢true e
-no_last (sought.Behind (suc more)) e = false≢true e
+no_last (Ok object) e = false≢true e
+no_last (Err zero) e = false≢true e
+no_last (Err (suc more)) e = false≢true e
 
 -- the own station is passed over
 other_not_own : (own ahead : ℕ) → other_at own ahead ≡ own → ⊥
@@ -97,7 +96,7 @@ passed_all (kind ∷ kinds) object n e i b q = by (is_counter kind) refl n (λ m
   where
     by : (c : Bool) → is_counter kind ≡ c → (n : ℕ)
         → ((m : ℕ) → behind_lasts (counter_at kinds (suc object) m) ≡ next.Rows → (i : ℕ) → i < length kinds → is_counter (get_or kinds i 0) ≡ true → counters kinds i < m)
-        → behind_lasts (cond c (cond (eqb n 0) (sought.At object) (counter_at kinds (suc object) (n - 1))) (counter_at kinds (suc object) n)) ≡ next.Rows
+        → behind_lasts (cond c (cond (eqb n 0) (Ok object) (counter_at kinds (suc object) (n - 1))) (counter_at kinds (suc object) n)) ≡ next.Rows
         → (i : ℕ) → i < suc (length kinds) → is_counter (get_or (kind ∷ kinds) i 0) ≡ true → counters (kind ∷ kinds) i < n
     by true s zero rest e i b q = absurd (false≢true (ap is_rows e))
     by true s (suc n) rest e zero b q = omega arith

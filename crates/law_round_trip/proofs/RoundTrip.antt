@@ -1,4 +1,5 @@
 -- Loading what a table wrote gives that table back.
+use Rattle.std.specs.Prelude.{Ok}
 use mathlib.Core.Path.{◌≡◌, refl, sym, ap, ◌∙◌, subst}
 use mathlib.Core.Bool.{Bool, true, false, ◌&&◌}
 use mathlib.Core.List.{List, [], ◌∷◌, ◌++◌, map, append_assoc, append-nil, Memᴰ}
@@ -43,7 +44,6 @@ use Rattle.meaning.proofs.TableFacts.{row_small}
 use Rattle.form_write.specs.Forms.{last_lines, row_lines, saved_form, total_lines}
 use Rattle.form_write.proofs.Short.{closing_short, opening_short, row_short}
 use Rattle.form_write.proofs.ReadsBack.{closing_back, kinds_back, opening_back, row_back, row_known}
-use Rattle.call_checked.specs.declared.Opened.TheVariants as called
 use Rattle.call_checked.specs.Called.{header_read, opened_as, opened_by}
 use Rattle.form_take.specs.declared.Loaded.TheVariants as loaded
 use Rattle.form_load.specs.declared.Next.TheVariants as next
@@ -176,7 +176,7 @@ module _ (t : Table) (is : is_table t ≡ true) (rest : List ℕ) where
   unfolding is_row is_line_of
   closing_is_no_row = no_shape (head_of row) size (closing_line (length t.rows)) (closing_first (length t.rows))
 
-  pub closing_at : (p : ℕ) → next_after size t.header.own t.header.kinds p ≡ next.Rows → loaded_by (hex_line (closing_line (length t.rows))) (under p t rest) ≡ (loaded.Table, words_of t ++ rest)
+  pub closing_at : (p : ℕ) → next_after size t.header.own t.header.kinds p ≡ next.Rows → loaded_by (hex_line (closing_line (length t.rows))) (under p t rest) ≡ (Ok loaded.Table, words_of t ++ rest)
   closing_at p c =
       let line = closing_line (length t.rows) in
       let heard : bytes_of (hex_line line) ≡ line = bytes_back line (replicate longest 0) (closing_bytes (length t.rows)) (length-replicate {A = ℕ} longest 0) (omega (arith, closing_short t is)) in
@@ -209,11 +209,11 @@ module _ (t : Table) (is : is_table t ≡ true) (space : List ℕ) (no_load : un
   unfolding open_table opening_refusals
   opens = rw ((facts t is).header_in_range, le-ltb (length space) (space_for t.header.size t.header.capacity) room) refl
 
-  opened_space : opened_by line space ≡ (called.Fresh, words_of (opened t.header) ++ beyond)
+  opened_space : opened_by line space ≡ (Ok tt, words_of (opened t.header) ++ beyond)
   unfolding opened_by opened_as opened
   opened_space = rw (opening_heard, header_back, opening_back t is, opens) refl
 
-  pub opening_taken : loaded_by line space ≡ (loaded.Taken, under 1 (opened t.header) beyond)
+  pub opening_taken : loaded_by line space ≡ (Ok loaded.Taken, under 1 (opened t.header) beyond)
   unfolding loaded_by first_taken first_as begun
   opening_taken = rw (no_load, opening_kind t.header, opened_space) refl
 

@@ -1,4 +1,5 @@
 -- What a row's line said, and the closing line, that a space under load took.
+use Rattle.std.specs.Prelude.{Result, Ok}
 use mathlib.Core.Path.{◌≡◌, refl, sym, ap, ◌∙◌}
 use mathlib.Core.Bool.{Bool, true, false, not, ◌&&◌, cond}
 use mathlib.Core.Logic.{◌⊎◌, inl, inr}
@@ -100,7 +101,7 @@ module _ (size : ℕ) (f : saved.Row) (long : length (take size f.vector) ≡ si
       rw (vector_said, settled_back f.settled flag, value, sym e) refl
 
 -- two tests one after the other are one
-one_test : (a b c : Bool) (x y : Loaded × List ℕ) → pick (a && b) (pick c x y) y ≡ pick (a && (b && c)) x y
+one_test : (a b c : Bool) (x y : Result Loaded ℕ × List ℕ) → pick (a && b) (pick c x y) y ≡ pick (a && (b && c)) x y
 one_test true true c x y = refl
 one_test true false c x y = refl
 one_test false b c x y = refl
@@ -115,7 +116,7 @@ RowRules t r =
 pub record Closed (line : List ℕ) (t : Table) (rest : List ℕ) (p : ℕ) : Type 0 where
   pub line_is : line ≡ hex_line (closing_line (length t.rows))
   pub held : holds_table (words_of t ++ rest) ≡ true
-  pub next_is : loaded_by line (under p t rest) ≡ (loaded.Table, words_of t ++ rest)
+  pub next_is : loaded_by line (under p t rest) ≡ (Ok loaded.Table, words_of t ++ rest)
 
 module _ (t : Table) (F : Fresh t) (rest : List ℕ) (p : ℕ) (line : List ℕ) (c : next_after t.header.size t.header.own t.header.kinds p ≡ next.Rows) where
   abbrev size : ℕ
@@ -136,7 +137,7 @@ module _ (t : Table) (F : Fresh t) (rest : List ℕ) (p : ℕ) (line : List ℕ)
   close_back n =
       let f = closing_read bytes in
       let whole : set space 6 0 ≡ plain = set_set plain 6 p 0 in
-      let answer : loaded_by line space ≡ pick (is_closing bytes && (eqb f.rows (length t.rows) && holds_table plain)) (loaded.Table, plain) (spoilt space) = by_rows_lem t F rest p line c ∙ rw (n, whole, count_is t F rest p) (one_test (is_closing bytes) (eqb f.rows (length t.rows)) (holds_table plain) (loaded.Table, plain) (spoilt space)) in
+      let answer : loaded_by line space ≡ pick (is_closing bytes && (eqb f.rows (length t.rows) && holds_table plain)) (Ok loaded.Table, plain) (spoilt space) = by_rows_lem t F rest p line c ∙ rw (n, whole, count_is t F rest p) (one_test (is_closing bytes) (eqb f.rows (length t.rows)) (holds_table plain) (Ok loaded.Table, plain) (spoilt space)) in
       cases (is_closing bytes && (eqb f.rows (length t.rows) && holds_table plain))
       (λ yes. let ok : is_closing bytes ≡ true = and_left (is_closing bytes) (eqb f.rows (length t.rows) && holds_table plain) yes in
       let both = and_right (is_closing bytes) (eqb f.rows (length t.rows) && holds_table plain) yes in
@@ -146,7 +147,7 @@ module _ (t : Table) (F : Fresh t) (rest : List ℕ) (p : ℕ) (line : List ℕ)
         held = and_right (eqb f.rows (length t.rows)) (holds_table plain) both;
         next_is = answer ∙ rw yes refl;
       }))
-      (λ bad. inl (ap (λ (o : Loaded × List ℕ). refused o.0) answer ∙ rw bad refl))
+      (λ bad. inl (ap (λ (o : Result Loaded ℕ × List ℕ). refused o.0) answer ∙ rw bad refl))
 
   -- `53`
   abbrev written : List (List ℕ)
@@ -190,10 +191,10 @@ module _ (t : Table) (F : Fresh t) (rest : List ℕ) (p : ℕ) (line : List ℕ)
       }
 
   -- what a row's line gets
-  abbrev row_answer : saved.Row → Loaded × List ℕ
+  abbrev row_answer : saved.Row → Result Loaded ℕ × List ℕ
   row_answer f =
       pick (leb f.settled 1 && joins space (row_said size f))
-      (loaded.Taken, set (paste space (row_place space (length t.rows)) (row_said size f) (length (row_said size f))) 5 (suc (length t.rows)))
+      (Ok loaded.Taken, set (paste space (row_place space (length t.rows)) (row_said size f) (length (row_said size f))) 5 (suc (length t.rows)))
       (spoilt space)
 
   row_answered : is_row size bytes ≡ true → loaded_by line space ≡ row_answer (row_read size bytes)
@@ -207,4 +208,4 @@ module _ (t : Table) (F : Fresh t) (rest : List ℕ) (p : ℕ) (line : List ℕ)
       let long : length (take size f.vector) ≡ size = length-take-le size f.vector (omega (arith, row_vector bytes size f refl, F.sized.few)) in
       cases (leb f.settled 1 && joins space (row_said size f))
       (λ yes. inr (row_taken_lem ok long (leb-true f.settled 1 (and_left (leb f.settled 1) (joins space (row_said size f)) yes)) (and_right (leb f.settled 1) (joins space (row_said size f)) yes)))
-      (λ bad. inl (ap (λ (o : Loaded × List ℕ). refused o.0) (row_answered ok) ∙ rw bad refl))
+      (λ bad. inl (ap (λ (o : Result Loaded ℕ × List ℕ). refused o.0) (row_answered ok) ∙ rw bad refl))

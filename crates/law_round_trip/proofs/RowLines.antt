@@ -1,4 +1,5 @@
 -- What a row's line, and the closing line, make of a space under load.
+use Rattle.std.specs.Prelude.{Ok}
 use mathlib.Core.Path.{◌≡◌, refl, sym, ap, ◌∙◌}
 use mathlib.Core.Bool.{Bool, true, false, ◌&&◌, cond}
 use mathlib.Core.List.{List, [], ◌∷◌, ◌++◌, map, append_assoc}
@@ -85,12 +86,12 @@ module _ (t : Table) (F : Fresh t) (rest : List ℕ) (p : ℕ) (line : List ℕ)
   by_rows_lem = taken_by_lem t F rest p line next.Rows c refl
 
   -- the closing line
-  pub close_step : is_row size (bytes_of line) ≡ false → (is_closing (bytes_of line) ≡ true) × (closing_read (bytes_of line) ≡ record { rows = length t.rows }) → is_table t ≡ true → loaded_by line space ≡ (loaded.Table, plain)
+  pub close_step : is_row size (bytes_of line) ≡ false → (is_closing (bytes_of line) ≡ true) × (closing_read (bytes_of line) ≡ record { rows = length t.rows }) → is_table t ≡ true → loaded_by line space ≡ (Ok loaded.Table, plain)
   unfolding taken_as row_or_closing closed finished words_of
   close_step n e is =
       let whole : set space 6 0 ≡ plain = set_set plain 6 p 0 in
       by_rows_lem ∙ rw (n, whole, count_is t F rest p)
-      (rw e.0 (ap (λ (f : Closing). pick (eqb f.rows (length t.rows)) (pick (holds_table plain) (loaded.Table, plain) (spoilt space)) (spoilt space)) e.1)
+      (rw e.0 (ap (λ (f : Closing). pick (eqb f.rows (length t.rows)) (pick (holds_table plain) (Ok loaded.Table, plain) (spoilt space)) (spoilt space)) e.1)
       ∙ rw (eq-eqb (length t.rows) (length t.rows) refl, laid_held t is rest) refl)
 
   -- the rows that stand there
@@ -140,8 +141,8 @@ module _ (t : Table) (F : Fresh t) (rest : List ℕ) (p : ℕ) (line : List ℕ)
         ∙ set_swap (paste plain place (row_words size r) (length (row_words size r))) 5 6 (suc (length t.rows)) p (omega arith)
         ∙ ap (λ (l : List ℕ). set l 6 p) (row_behind t F rest r wide more)
 
-    pub row_step : (is_row size (bytes_of line) ≡ true) × (row_read size (bytes_of line) ≡ line_of_row size r) → loaded_by line space ≡ (loaded.Taken, under p (with_rows t (t.rows ++ (r ∷ []))) rest)
+    pub row_step : (is_row size (bytes_of line) ≡ true) × (row_read size (bytes_of line) ≡ line_of_row size r) → loaded_by line space ≡ (Ok loaded.Taken, under p (with_rows t (t.rows ++ (r ∷ []))) rest)
     unfolding taken_as row_or_closing row_taken joined words_of
     row_step e =
         by_rows_lem
-        ∙ rw (size_is t F rest p, e.0, e.1, said_words size r few low, byte_low r.settled, may_join) (ap (λ (l : List ℕ). (loaded.Taken, l)) after)
+        ∙ rw (size_is t F rest p, e.0, e.1, said_words size r few low, byte_low r.settled, may_join) (ap (λ (l : List ℕ). (Ok loaded.Taken, l)) after)

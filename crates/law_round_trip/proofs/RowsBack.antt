@@ -1,4 +1,5 @@
 -- The lines of rows and the closing line of a form that loads, by the table that they leave.
+use Rattle.std.specs.Prelude.{Result}
 use mathlib.Core.Path.{◌≡◌, sym, ap, ap₂, ◌∙◌, subst}
 use mathlib.Core.Bool.{true, false≢true}
 use mathlib.Core.Logic.{◌⊎◌, inl, inr}
@@ -32,17 +33,17 @@ pub record RowsEnd (t : Table) (lines : List (List ℕ)) (after : List ℕ) : Ty
 
 closes : (line : List ℕ) (lines : List (List ℕ)) (t : Table) → Fresh t → (rest : List ℕ) (p : ℕ) (after : List ℕ)
     → (refused (loaded_by line (under p t rest)).0 ≡ true) ⊎ Closed line t rest p → Loads (line ∷ lines) (under p t rest) after → RowsEnd t (line ∷ lines) after
-closes line [] t F rest p after (inl e) h = absurd (false≢true (sym (ap (λ (o : Loaded × List ℕ). refused o.0) h) ∙ e))
+closes line [] t F rest p after (inl e) h = absurd (false≢true (sym (ap (λ (o : Result Loaded ℕ × List ℕ). refused o.0) h) ∙ e))
 closes line (second ∷ lines) t F rest p after (inl e) h = absurd (false≢true (sym (ap refused h.0) ∙ e))
 closes line [] t F rest p after (inr C) h =
-    let same : words_of t ++ rest ≡ after = ap (λ (o : Loaded × List ℕ). o.1) (sym C.next_is ∙ h) in
+    let same : words_of t ++ rest ≡ after = ap (λ (o : Result Loaded ℕ × List ℕ). o.1) (sym C.next_is ∙ h) in
     record {
       held = subst (λ (w : List ℕ). holds_table w ≡ true) same C.held;
       more = [];
       table_is = ap table_of (sym same) ∙ table_read t F.well rest ∙ ap (with_rows t) (sym (append-nil t.rows));
       lines_are = ap (λ (l : List ℕ). l ∷ []) (C.line_is ∙ ap (λ (rows : List Row). hex_line (closing_line (length rows))) (sym (append-nil t.rows)));
     }
-closes line (second ∷ lines) t F rest p after (inr C) h = absurd (false≢true (ap is_taken (sym (ap (λ (o : Loaded × List ℕ). o.0) C.next_is) ∙ h.0)))
+closes line (second ∷ lines) t F rest p after (inr C) h = absurd (false≢true (ap is_taken (sym (ap (λ (o : Result Loaded ℕ × List ℕ). o.0) C.next_is) ∙ h.0)))
 
 -- a row's line ahead of the lines of more rows
 one_more : (line : List ℕ) (lines : List (List ℕ)) (t : Table) (rest : List ℕ) (p : ℕ) (after : List ℕ) (G : Gone line lines (row_line t.header.size) (λ (r : Row). with_rows t (t.rows ++ (r ∷ []))) p rest after)

@@ -1,4 +1,5 @@
 -- What one line of a form makes of a space under load.
+use Rattle.std.specs.Prelude.{Ok}
 use mathlib.Core.Path.{◌≡◌, refl, sym, ap, ◌∙◌}
 use mathlib.Core.Bool.{true, ◌&&◌}
 use mathlib.Core.List.{List, [], ◌∷◌, ◌++◌}
@@ -56,7 +57,7 @@ module _ (t : Table) (F : Fresh t) (rest : List ℕ) (p : ℕ) (line : List ℕ)
   no_rows = eq-eqb (length t.rows) 0 none
 
   -- `50`
-  pub clock_step : next_after size t.header.own t.header.kinds p ≡ next.Clock → (v : Vector) → length v ≡ size → (is_clock size (bytes_of line) ≡ true) × (clock_read size (bytes_of line) ≡ record { vector = shapes.padded greatest_size v }) → loaded_by line (under p t rest) ≡ (loaded.Taken, under (suc p) (with_clock t v) rest)
+  pub clock_step : next_after size t.header.own t.header.kinds p ≡ next.Clock → (v : Vector) → length v ≡ size → (is_clock size (bytes_of line) ≡ true) × (clock_read size (bytes_of line) ≡ record { vector = shapes.padded greatest_size v }) → loaded_by line (under p t rest) ≡ (Ok loaded.Taken, under (suc p) (with_clock t v) rest)
   unfolding taken_as clock_taken waits
   clock_step c v long e =
       let words = under p t rest in
@@ -68,7 +69,7 @@ module _ (t : Table) (F : Fresh t) (rest : List ℕ) (p : ℕ) (line : List ℕ)
       ∙ took_as t F rest p clock_at v (with_clock t v) (omega arith) (omega (arith, room t F rest p)) put
 
   -- `51`
-  pub last_step : (k : ℕ) → k < size → next_after size t.header.own t.header.kinds p ≡ next.Last (record { 0 = k }) → (v : Vector) → length v ≡ size → last_kept t.header.own t.clock k v ≡ true → (is_last size (bytes_of line) ≡ true) × (last_read size (bytes_of line) ≡ record { station = k; vector = shapes.padded greatest_size v }) → loaded_by line (under p t rest) ≡ (loaded.Taken, under (suc p) (with_last t (set t.last k v)) rest)
+  pub last_step : (k : ℕ) → k < size → next_after size t.header.own t.header.kinds p ≡ next.Last (record { 0 = k }) → (v : Vector) → length v ≡ size → last_kept t.header.own t.clock k v ≡ true → (is_last size (bytes_of line) ≡ true) × (last_read size (bytes_of line) ≡ record { station = k; vector = shapes.padded greatest_size v }) → loaded_by line (under p t rest) ≡ (Ok loaded.Taken, under (suc p) (with_last t (set t.last k v)) rest)
   unfolding taken_as last_taken waits words_of
   last_step k b c v long kept e =
       let words = under p t rest in
@@ -81,7 +82,7 @@ module _ (t : Table) (F : Fresh t) (rest : List ℕ) (p : ℕ) (line : List ℕ)
       ∙ rw (eq-eqb k k refl, front_of v size long, kept) (took_as t F rest p at v (with_last t (set t.last k v)) (omega arith) within put))
 
   -- `52`
-  pub total_step : (o : ℕ) → o < length t.header.kinds → next_after size t.header.own t.header.kinds p ≡ next.Total o → (z : ℤ) → InRange z → total_kept (total_bound t.clock) (get_or t.header.kinds o 0) z ≡ true → (is_total (bytes_of line) ≡ true) × (total_read (bytes_of line) ≡ record { object = o; high = complement z / word_limit; low = complement z % word_limit }) → loaded_by line (under p t rest) ≡ (loaded.Taken, under (suc p) (with_totals t (set t.totals o z)) rest)
+  pub total_step : (o : ℕ) → o < length t.header.kinds → next_after size t.header.own t.header.kinds p ≡ next.Total o → (z : ℤ) → InRange z → total_kept (total_bound t.clock) (get_or t.header.kinds o 0) z ≡ true → (is_total (bytes_of line) ≡ true) × (total_read (bytes_of line) ≡ record { object = o; high = complement z / word_limit; low = complement z % word_limit }) → loaded_by line (under p t rest) ≡ (Ok loaded.Taken, under (suc p) (with_totals t (set t.totals o z)) rest)
   unfolding taken_as total_taken waits words_of
   total_step o b c z range kept e =
       let words = under p t rest in

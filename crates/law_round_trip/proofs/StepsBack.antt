@@ -1,4 +1,5 @@
 -- What a line said that a space under load took.
+use Rattle.std.specs.Prelude.{Result, Ok, Err}
 use mathlib.Core.Path.{◌≡◌, refl, sym, ap, ap₂, ◌∙◌, subst}
 use mathlib.Core.Bool.{Bool, true, false, ◌&&◌, false≢true}
 use mathlib.Core.Logic.{◌⊎◌, inl, inr}
@@ -42,15 +43,15 @@ use Rattle.law_round_trip.proofs.Steps.{clock_step, last_step, total_step}
 use Rattle.line_decode.proofs.Decoding.{decoded_bytes}
 use Rattle.law_round_trip.proofs.Decoded.{high_small, line_said, low_small, vector_padded, vector_small}
 
-abbrev pub refused : Loaded → Bool
-refused (loaded.Refused number) = true
-refused loaded.Taken = false
-refused loaded.Table = false
+abbrev pub refused : Result Loaded ℕ → Bool
+refused (Err number) = true
+refused (Ok loaded.Taken) = false
+refused (Ok loaded.Table) = false
 
-abbrev pub is_taken : Loaded → Bool
-is_taken loaded.Taken = true
-is_taken (loaded.Refused number) = false
-is_taken loaded.Table = false
+abbrev pub is_taken : Result Loaded ℕ → Bool
+is_taken (Ok loaded.Taken) = true
+is_taken (Err number) = false
+is_taken (Ok loaded.Table) = false
 
 -- a line that was taken: what it says, its spelling, the record that it makes, and the rules that it keeps
 pub record Took {A : Type 0} (line words : List ℕ) (spell : A → List ℕ) (make : A → Table) (keeps : A → Type 0) (p : ℕ) (rest : List ℕ) : Type 0 where
@@ -58,7 +59,7 @@ pub record Took {A : Type 0} (line words : List ℕ) (spell : A → List ℕ) (m
   pub line_is : line ≡ hex_line (spell what)
   pub fresh : Fresh (make what)
   pub kept : keeps what
-  pub next_is : loaded_by line words ≡ (loaded.Taken, under p (make what) rest)
+  pub next_is : loaded_by line words ≡ (Ok loaded.Taken, under p (make what) rest)
 
 -- the same, with the lines behind it
 pub record Gone {A : Type 0} (line : List ℕ) (lines : List (List ℕ)) (spell : A → List ℕ) (make : A → Table) (p : ℕ) (rest after : List ℕ) : Type 0 where
@@ -70,14 +71,14 @@ pub record Gone {A : Type 0} (line : List ℕ) (lines : List (List ℕ)) (spell 
 -- a line of a form that loads is not refused
 pub goes_on : {A : Type 0} {keeps : A → Type 0} (line : List ℕ) (lines : List (List ℕ)) (words : List ℕ) (spell : A → List ℕ) (make : A → Table) (p : ℕ) (rest after : List ℕ)
     → (refused (loaded_by line words).0 ≡ true) ⊎ Took line words spell make keeps p rest → Loads (line ∷ lines) words after → Gone line lines spell make p rest after
-goes_on line [] words spell make p rest after (inl e) h = absurd (false≢true (sym (ap (λ (o : Loaded × List ℕ). refused o.0) h) ∙ e))
+goes_on line [] words spell make p rest after (inl e) h = absurd (false≢true (sym (ap (λ (o : Result Loaded ℕ × List ℕ). refused o.0) h) ∙ e))
 goes_on line (second ∷ lines) words spell make p rest after (inl e) h = absurd (false≢true (sym (ap refused h.0) ∙ e))
-goes_on line [] words spell make p rest after (inr T) h = absurd (false≢true (ap (λ (o : Loaded × List ℕ). is_taken o.0) (sym h ∙ T.next_is)))
+goes_on line [] words spell make p rest after (inr T) h = absurd (false≢true (ap (λ (o : Result Loaded ℕ × List ℕ). is_taken o.0) (sym h ∙ T.next_is)))
 goes_on line (second ∷ lines) words spell make p rest after (inr T) h = record {
   what = T.what;
   line_is = T.line_is;
   fresh = T.fresh;
-  more = subst (λ (w : List ℕ). Loads (second ∷ lines) w after) (ap (λ (o : Loaded × List ℕ). o.1) T.next_is) h.1;
+  more = subst (λ (w : List ℕ). Loads (second ∷ lines) w after) (ap (λ (o : Result Loaded ℕ × List ℕ). o.1) T.next_is) h.1;
 }
 
 -- a part of a fresh record changed
@@ -177,7 +178,7 @@ module _ (t : Table) (F : Fresh t) (rest : List ℕ) (p : ℕ) (line : List ℕ)
         kept = vector_small clock size bytes (decoded_bytes line) ok;
         next_is = clock_step t F rest p line none c v long (ok, ap (λ (u : Vector). record { vector = u }) (vector_padded clock size bytes ok));
       }))
-      (λ bad. inl (ap (λ (o : Loaded × List ℕ). refused o.0) (taken_by_lem t F rest p line next.Clock c no_rows) ∙ rw (size_is t F rest p, bad) refl))
+      (λ bad. inl (ap (λ (o : Result Loaded ℕ × List ℕ). refused o.0) (taken_by_lem t F rest p line next.Clock c no_rows) ∙ rw (size_is t F rest p, bad) refl))
 
   -- `51`
   pub last_back : (k : ℕ) → k < size → next_after size t.header.own t.header.kinds p ≡ next.Last (record { 0 = k }) → (refused (loaded_by line words).0 ≡ true) ⊎ Took line words (last_line k) (λ (v : Vector). with_last t (set t.last k v)) (λ (v : Vector). last_kept t.header.own t.clock k v ≡ true) (suc p) rest
@@ -198,7 +199,7 @@ module _ (t : Table) (F : Fresh t) (rest : List ℕ) (p : ℕ) (line : List ℕ)
         kept = and_right (eqb f.station k) kept both;
         next_is = last_step t F rest p line none k b c v long (and_right (eqb f.station k) kept both) (ok, ap₂ (λ (i : ℕ) (u : Vector). record { station = i; vector = u }) same (vector_padded last_vector size bytes ok));
       }))
-      (λ bad. inl (ap (λ (o : Loaded × List ℕ). refused o.0) (taken_by_lem t F rest p line (next.Last (record { 0 = k })) c no_rows) ∙ rw (size_is t F rest p, own_is t F rest p, clock_is t F rest p, bad) refl))
+      (λ bad. inl (ap (λ (o : Result Loaded ℕ × List ℕ). refused o.0) (taken_by_lem t F rest p line (next.Last (record { 0 = k })) c no_rows) ∙ rw (size_is t F rest p, own_is t F rest p, clock_is t F rest p, bad) refl))
 
   -- `52`
   pub total_back : (o : ℕ) → o < length t.header.kinds → next_after size t.header.own t.header.kinds p ≡ next.Total o → (refused (loaded_by line words).0 ≡ true) ⊎ Took line words (total_line o) (λ (z : ℤ). with_totals t (set t.totals o z)) (λ (z : ℤ). total_kept (total_bound t.clock) (get_or t.header.kinds o 0) z ≡ true) (suc p) rest
@@ -224,4 +225,4 @@ module _ (t : Table) (F : Fresh t) (rest : List ℕ) (p : ℕ) (line : List ℕ)
         kept = and_right (eqb f.object o) kept both;
         next_is = total_step t F rest p line none o b c z range (and_right (eqb f.object o) kept both) (ok, rw (same, high_is, low_is_lem) refl);
       }))
-      (λ bad. inl (ap (λ (o : Loaded × List ℕ). refused o.0) (taken_by_lem t F rest p line (next.Total o) c no_rows) ∙ rw (kinds_are t F rest p, clock_is t F rest p, bad) refl))
+      (λ bad. inl (ap (λ (o : Result Loaded ℕ × List ℕ). refused o.0) (taken_by_lem t F rest p line (next.Total o) c no_rows) ∙ rw (kinds_are t F rest p, clock_is t F rest p, bad) refl))

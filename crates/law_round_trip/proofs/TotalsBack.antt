@@ -1,4 +1,5 @@
 -- The lines of totals of a form that loads, by the table that is left in the end.
+use Rattle.std.specs.Prelude.{Ok, Err}
 use mathlib.Core.Path.{◌≡◌, refl, sym, ap, ap₂, ◌∙◌}
 use mathlib.Core.Bool.{Bool, true, false}
 use mathlib.Core.List.{List, [], ◌∷◌, ◌++◌, map}
@@ -18,7 +19,6 @@ use Rattle.line_hex.specs.Hex.{hex_line}
 use Rattle.form_lines.specs.FormLines.{closing_line, row_line, total_line}
 use Rattle.form_write.specs.Forms.{lines_of, row_lines}
 use Rattle.form_write.specs.Seeking.{counter_at}
-use Rattle.form_write.specs.declared.Sought.TheVariants as sought
 use Rattle.form_load.specs.declared.Next.TheVariants as next
 use Rattle.form_load.specs.Loading.{behind_lasts, next_after}
 use Rattle.law_round_trip.specs.Restoring.{Loads}
@@ -59,11 +59,11 @@ passes_counter kinds k j b e S i =
     let less : suc i - 1 ≡ i = omega arith in
     rw more (S (suc i) ∙ rw (drop-cons kinds k 0 b, e, ne_eqb (suc i) 0 (λ z. omega (arith, z)), less) refl)
 
-finds_counter : (kinds : List ℕ) (k j : ℕ) → k < length kinds → is_counter (get_or kinds k 0) ≡ true → Seeks kinds k j → counter_at kinds 0 j ≡ sought.At k
+finds_counter : (kinds : List ℕ) (k j : ℕ) → k < length kinds → is_counter (get_or kinds k 0) ≡ true → Seeks kinds k j → counter_at kinds 0 j ≡ Ok k
 unfolding counter_at
 finds_counter kinds k j b e S = let same : 0 + j ≡ j = omega arith in (rw same at (S 0)) ∙ rw (drop-cons kinds k 0 b, e) refl
 
-finds_none : (kinds : List ℕ) (k j : ℕ) → length kinds ≤ k → Seeks kinds k j → counter_at kinds 0 j ≡ sought.Behind 0
+finds_none : (kinds : List ℕ) (k j : ℕ) → length kinds ≤ k → Seeks kinds k j → counter_at kinds 0 j ≡ Err 0
 unfolding counter_at
 finds_none kinds k j b S = let same : 0 + j ≡ j = omega arith in (rw same at (S 0)) ∙ rw (drop_of_length-le kinds {i = k} b) refl
 

@@ -1,4 +1,5 @@
 -- A space under load: a table record written in it, and how far the load has come.
+use Rattle.std.specs.Prelude.{Ok}
 use mathlib.Core.Path.{◌≡◌, refl, sym, ap, ap₂, ◌∙◌, subst}
 use mathlib.Core.Bool.{true, ◌&&◌}
 use mathlib.Core.List.{List, ◌++◌}
@@ -137,8 +138,8 @@ module _ (t : Table) (F : Fresh t) (rest : List ℕ) (p : ℕ) where
     object_in o c = subst (λ (n : ℕ). o < n) objects_are (load_object words u (next.Total o) (sym (next_is ∙ c)) o refl)
 
   -- new words at a place that make another record of it
-  pub took_as : (at : ℕ) (new : List ℕ) (u : Table) → 6 < at → at ≤ length plain → paste plain at new (length new) ≡ rewritten plain u → took words at new ≡ (loaded.Taken, under (suc p) u rest)
+  pub took_as : (at : ℕ) (new : List ℕ) (u : Table) → 6 < at → at ≤ length plain → paste plain at new (length new) ≡ rewritten plain u → took words at new ≡ (Ok loaded.Taken, under (suc p) u rest)
   unfolding took rewritten words_of
   took_as at new u h room e =
       let beyond_is : beyond plain ≡ rest = drop_at (words_of t) rest (space_for t.header.size t.header.capacity) (words_long t F.well F.sized) in
-      ap (λ (l : List ℕ). (loaded.Taken, l)) (rw (paste_set plain new 6 at (length new) p h room, set_set (paste plain at new (length new)) 6 p (suc p), e, beyond_is) refl)
+      ap (λ (l : List ℕ). (Ok loaded.Taken, l)) (rw (paste_set plain new 6 at (length new) p h room, set_set (paste plain at new (length new)) 6 p (suc p), e, beyond_is) refl)
