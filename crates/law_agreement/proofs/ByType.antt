@@ -19,7 +19,7 @@ use Rattle.meaning.specs.Calls.{after_arrival, outcome}
 use Rattle.words_layout.specs.Layout.{holds_table, rewritten, space_for, table_of}
 use Rattle.refusal_kind.specs.Asking.{asked_from}
 use Rattle.table_rules.proofs.Checking.{checked}
-use Rattle.question.specs.declared.Reply.TheVariants as reply
+use Rattle.question.specs.Told as reply
 use Rattle.question.specs.Replies.{replied}
 use Rattle.line_hex.specs.Choice.{pick}
 use Rattle.line_hex.specs.Hex.{digit_of, digits_of, hex_line}

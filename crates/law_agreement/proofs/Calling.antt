@@ -25,7 +25,7 @@ use Rattle.words_layout.specs.Layout.{holds_table, table_of, rewritten, row_of, 
 use Rattle.words_layout.proofs.Pieces.{map_back}
 use Rattle.words_layout.proofs.Whole.{each_spelt}
 use Rattle.refusal_kind.specs.Asking.{asked_from}
-use Rattle.question.specs.declared.Reply.TheVariants as reply
+use Rattle.question.specs.Told as reply
 use Rattle.question.specs.Replies.{replied}
 use Rattle.table_rules.specs.Checked.{Checked}
 use Rattle.table_rules.proofs.Checking.{checked}

@@ -20,8 +20,8 @@ use Rattle.meaning.proofs.Tests.{cases}
 use Rattle.meaning.proofs.Refusals.{number_at, given_at, distinct, exact}
 use Rattle.words_layout.specs.Layout.{holds_table, table_of, size_in, space_for}
 use Rattle.refusal_kind.specs.Asking.{asked_from}
-use Rattle.question.specs.declared.Reply.{Reply}
-use Rattle.question.specs.declared.Reply.TheVariants as reply
+use Rattle.question.specs.Told.{Told}
+use Rattle.question.specs.Told as reply
 use Rattle.question.specs.Replies.{number_of, replied}
 use Rattle.table_rules.specs.Checked.{Checked}
 use Rattle.table_rules.proofs.Checking.{checked}
@@ -230,7 +230,7 @@ module _ (line words out : List ℕ) where
   abbrev source : Source
   source = by_rows (table_of words)
 
-  abbrev answers : ℕ → Reply × List ℕ
+  abbrev answers : ℕ → Told × List ℕ
   answers r = cond (eqb r 0) (ask_result line words out) (ask_refusal line words r, out)
 
   replied_by_number : (r : ℕ) → replied (reply_of r source asked) out ≡ answers r

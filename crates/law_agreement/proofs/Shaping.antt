@@ -120,7 +120,7 @@ module _ (bytes : List ℕ) (h : AllBytes bytes) where
       vector : List ℕ
       vector = read (replicate (stations_of bytes) 4) (drop (length_of (head_of operation)) bytes)
 
-      by : (b : Bool) → every small (pick b (record { ok = true; head = padded 6 (read (head_of operation) bytes); vector = vector ++ replicate (greatest_size - length vector) 0 }) unread).vector ≡ true
+      by : (b : Bool) → every small (pick b (record { head = padded 6 (read (head_of operation) bytes); vector = vector ++ replicate (greatest_size - length vector) 0 }) unread).vector ≡ true
       by true = small_append vector (replicate (greatest_size - length vector) 0) (small_read (stations_of bytes) (drop (length_of (head_of operation)) bytes) (all_bytes_drop (length_of (head_of operation)) bytes h)) (small_zeros (greatest_size - length vector))
       by false = small_zeros greatest_size
 

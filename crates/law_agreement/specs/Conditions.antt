@@ -11,8 +11,8 @@ use Rattle.meaning.specs.Refusals.{Refusal, ◌when◌, declared, operation_allo
 use Rattle.meaning.specs.Calls.{after_arrival, with_rows, rows_settled, steps, answered}
 use Rattle.words_layout.specs.Layout.{holds_table, table_of, rewritten, space_for, words_of}
 use Rattle.refusal_kind.specs.Asking.{asked_from}
-use Rattle.question.specs.declared.Reply.{Reply}
-use Rattle.question.specs.declared.Reply.TheVariants as reply
+use Rattle.question.specs.Told.{Told}
+use Rattle.question.specs.Told as reply
 use Rattle.question.specs.Replies.{replied}
 use Rattle.line_hex.specs.Decoding.{is_line}
 use Rattle.line_hex.specs.Hex.{hex_line}
@@ -118,7 +118,7 @@ number_of_saved (Ok (Some length)) = 0
 number_of_saved (Ok None) = 0
 
 -- "11 also the count": what a question is told by its number.
-unfoldable pub ask_refusal : List ℕ → List ℕ → ℕ → Reply
+unfoldable pub ask_refusal : List ℕ → List ℕ → ℕ → Told
 ask_refusal line words number =
     let values = (by_rows (table_of words)).list_at (question_read (bytes_of line)).object in
     cond (eqb number 11) (reply.TooLong (record { 0 = length values })) (reply.Refused number)
@@ -152,7 +152,7 @@ settle_result line words =
     (Ok (record { 0 = steps table limit }), rewritten words (with_rows table (rows_settled table limit)))
 
 -- A question: its answer from the table's rows and totals.
-unfoldable pub ask_result : List ℕ → List ℕ → List ℕ → Reply × List ℕ
+unfoldable pub ask_result : List ℕ → List ℕ → List ℕ → Told × List ℕ
 ask_result line words out =
     let read = question_read (bytes_of line) in
     replied (answered (answer_from (by_rows (table_of words)) (asked_from read.object read.question read.value))) out

@@ -7,8 +7,8 @@ use Rattle.meaning.specs.Refusals.{issued_by}
 use Rattle.meaning.specs.Calls as meaning
 use Rattle.words_layout.specs.Layout.{holds_table, table_of}
 use Rattle.refusal_kind.specs.Asking.{asked_from}
-use Rattle.question.specs.declared.Reply.{Reply}
-use Rattle.question.specs.declared.Reply.TheVariants as reply
+use Rattle.question.specs.Told.{Told}
+use Rattle.question.specs.Told as reply
 use Rattle.line_hex.specs.Choice.{pick}
 use Rattle.line_hex.specs.Hex.{figure_zero, hex_line}
 use Rattle.line_read.specs.Types.{count, flag, issue, line_of, opening, operation, printing, question, settling, sum, longest_frame}
@@ -99,7 +99,7 @@ issued_answer (Err number, (words, out)) = (hex_line (refusal_bytes number), wor
 issued_answer (Ok characters, (words, out)) = (figure_zero ∷ figure_zero ∷ take characters out, words)
 
 -- "count 2 bytes; total 8; flag and holds 1; list a 2-byte count, then the different values ascending", which stand in the list space.
-unfoldable pub replied_answer : Reply × List ℕ → List ℕ
+unfoldable pub replied_answer : Told × List ℕ → List ℕ
 replied_answer (reply.Refused number, out) = refusal_bytes number
 replied_answer (reply.TooLong needed, out) = refusal_bytes 11
 replied_answer (reply.Total high low, out) = line_of sum (high ∷ low ∷ []) []
