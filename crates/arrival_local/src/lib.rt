@@ -19,7 +19,13 @@ use words_layout::{CLOCK_AT, COUNT_AT, KINDS_AT, OBJECTS_AT, OWN_AT, SIZE_AT};
 use words_tags::{RowCount, Station, Value};
 
 // The first refusal of 3, 4 and 9, which ask the header and D alone.
-fn early_refusal(s: &[u32], size: usize, object: u32, code: u32, value: Value) -> Result<(), Refusal>
+fn early_refusal(
+    s: &[u32],
+    size: usize,
+    object: u32,
+    code: u32,
+    value: Value,
+) -> Result<(), Refusal>
     requires { Checked s.now × (size ≡ size_in s.now) }
     ensures { refused result ≡ first_of (issue_refusals (table_of s.now).header (table_of s.now).clock (local_from object code value.0)) }
 {

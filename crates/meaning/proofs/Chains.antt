@@ -17,7 +17,6 @@ use Rattle.std.proofs.lemmas.Fn.{fold_over}
 use Rattle.meaning.specs.Tests.{every, those}
 
 module _ {B : Type 0} (test : B → Bool) where
-
   all_meet : (l : List B) → AllWithin (λ x. test x ≡ true) l 0 (length l) → every test l ≡ true
   all_meet [] h = refl
   all_meet (x ∷ l) h = let p : test x ≡ true = h 0 x (omega arith) (omega arith) in rw p (all_meet l (λ k d a b. h (suc k) d (omega arith) (omega arith)))
