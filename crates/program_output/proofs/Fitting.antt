@@ -1,4 +1,5 @@
 -- Every output line fits the space for it.
+use Rattle.std.specs.Prelude.{Option, Some, None}
 use Prim.Native.Nat.{ℕ, zero, suc, ◌-◌, ◌≤◌}
 use mathlib.Core.Path.{◌≡◌, sym, ap, subst, refl, ◌∙◌}
 use mathlib.Core.Bool.{Bool, true, false, ◌&&◌}
@@ -16,8 +17,6 @@ use Rattle.line_decode.specs.Decoding.{bytes_of}
 use Rattle.form_write.specs.Forms.{saved_form}
 use Rattle.form_write.proofs.Short.{Short, form_short}
 use Rattle.call_answer.proofs.Short.{refusal_short}
-use Rattle.call_answer.specs.declared.Answered.{Answered}
-use Rattle.call_answer.specs.declared.Answered.TheVariants.{Line, End}
 use Rattle.calls.specs.Answers.{answered_by, answer_of, lines_for, longest_answer}
 use Rattle.call_answer.specs.OutputLines.{printed_at}
 use Rattle.calls.proofs.Answering.{answer_fits}
@@ -49,9 +48,9 @@ module _ (line words : List ℕ) where
       by false read f = (answer_fits line words, tt)
 
 -- an output line stands at the front of its space, and is none too long
-abbrev Within : Answered → List ℕ → Type 0
-Within (Line n) out = (n ≤ length out) × (n ≤ longest_answer)
-Within End out = Unit {0}
+abbrev Within : Option ℕ → List ℕ → Type 0
+Within (Some n) out = (n ≤ length out) × (n ≤ longest_answer)
+Within None out = Unit {0}
 
 printed_within : (lines : List (List ℕ)) → Fit lines → (k : ℕ) (out : List ℕ) → Within (printed_at lines k out).0 (printed_at lines k out).1
 unfolding printed_at
@@ -60,14 +59,14 @@ printed_within (bytes ∷ rest) f zero out = (omega (arith, length-append (hex_l
 printed_within (bytes ∷ rest) f (suc k) out = printed_within rest f.1 k out
 
 -- so the characters that are told stand in it
-module _ (lines : List (List ℕ)) (fit : Fit lines) (k : ℕ) (out : List ℕ) (r : Answered) (n : ℕ) (y : List ℕ) (e : (r, y) ≡ printed_at lines k out) (f : r ≡ Line n) where
-  both : Within (Line n) y
-  both = subst (λ (q : Answered × List ℕ). Within q.0 q.1) (sym e ∙ ap (λ (q : Answered). (q, y)) f) (printed_within lines fit k out)
+module _ (lines : List (List ℕ)) (fit : Fit lines) (k : ℕ) (out : List ℕ) (r : Option ℕ) (n : ℕ) (y : List ℕ) (e : (r, y) ≡ printed_at lines k out) (f : r ≡ Some n) where
+  both : Within (Some n) y
+  both = subst (λ (q : Option ℕ × List ℕ). Within q.0 q.1) (sym e ∙ ap (λ (q : Option ℕ). (q, y)) f) (printed_within lines fit k out)
 
   short : length (take (n - 0) y) ≤ longest_answer
   short = let z : n - 0 ≡ n = omega arith in omega (arith, both.1, ap (λ (m : ℕ). length (take m y)) z ∙ length-take-le n y both.0)
 
-abbrev pub told : Answered × (List ℕ × List ℕ) → Answered × List ℕ
+abbrev pub told : Option ℕ × (List ℕ × List ℕ) → Option ℕ × List ℕ
 told (r, (x, y)) = (r, y)
 
 resaved_fit : (known : Judged) (words : List ℕ) → Fit (resaved_lines known words)
@@ -87,7 +86,7 @@ unfolding line_at lines_of answered_by resaved_by
 at_printed source.Session line k words out = refl
 at_printed (source.Form known) line k words out = refl
 
-module _ (of : Source) (line : List ℕ) (k : ℕ) (words out : List ℕ) (r : Answered) (n : ℕ) (x y : List ℕ) (e : (r, (x, y)) ≡ line_at of line k words out) (f : r ≡ Line n) where
+module _ (of : Source) (line : List ℕ) (k : ℕ) (words out : List ℕ) (r : Option ℕ) (n : ℕ) (x y : List ℕ) (e : (r, (x, y)) ≡ line_at of line k words out) (f : r ≡ Some n) where
   printed : (r, y) ≡ printed_at (lines_of of line words) k out
   printed = ap told e ∙ at_printed of line k words out
 

@@ -1,4 +1,5 @@
 -- The loop that asks for every output line: those from the k-th on are still to be gathered.
+use Rattle.std.specs.Prelude.{Option, Some, None}
 use Prim.Native.Nat.{ℕ, zero, suc, ◌+◌, ◌-◌, ◌≤◌, ◌<◌}
 use mathlib.Core.Path.{◌≡◌, refl, sym, ap, ap₂, ◌∙◌}
 use mathlib.Core.Bool.{Bool, true, false, ◌&&◌}
@@ -13,8 +14,6 @@ use Rattle.line_hex.specs.Choice.{pick}
 use Rattle.line_read.specs.Named.{printing_read}
 use Rattle.line_decode.specs.Decoding.{bytes_of}
 use Rattle.form_write.specs.Forms.{saved_form, most_form_lines}
-use Rattle.call_answer.specs.declared.Answered.{Answered}
-use Rattle.call_answer.specs.declared.Answered.TheVariants.{Line, End}
 use Rattle.calls.specs.Answers.{answer_of, answered_by, lines_for, space_after}
 use Rattle.call_answer.specs.OutputLines.{printed_at}
 use Rattle.calls.proofs.Answering.{printing_kind, printing_stays}
@@ -50,21 +49,21 @@ module _ (line words₀ : List ℕ) where
       by false true x y = refl
       by false false x y = refl
 
-  module _ (k : ℕ) (words out : List ℕ) (r : Answered) (x y : List ℕ) (e : (r, (x, y)) ≡ answered_by line k words out) where
+  module _ (k : ℕ) (words out : List ℕ) (r : Option ℕ) (x y : List ℕ) (e : (r, (x, y)) ≡ answered_by line k words out) where
     first_told : k ≡ 0 → words ≡ words₀ → ((r, y) ≡ printed_at lines k out) × (x ≡ after)
     unfolding answered_by space_after
     first_told z w =
         let f : (r, (x, y)) ≡ answered_by line 0 words₀ out = e ∙ ap₂ (λ (n : ℕ) (v : List ℕ). answered_by line n v out) z w in
-        (ap (λ (q : Answered × (List ℕ × List ℕ)). (q.0, q.1.1)) f ∙ ap (λ (n : ℕ). printed_at lines n out) (sym z), ap (λ (q : Answered × (List ℕ × List ℕ)). q.1.0) f)
+        (ap (λ (q : Option ℕ × (List ℕ × List ℕ)). (q.0, q.1.1)) f ∙ ap (λ (n : ℕ). printed_at lines n out) (sym z), ap (λ (q : Option ℕ × (List ℕ × List ℕ)). q.1.0) f)
 
     later_told : (i : ℕ) → k ≡ suc i → words ≡ after → ((r, y) ≡ printed_at lines k out) × (x ≡ after)
     unfolding answered_by space_after
     later_told i z w =
         let f : (r, (x, y)) ≡ answered_by line (suc i) after out = e ∙ ap₂ (λ (n : ℕ) (v : List ℕ). answered_by line n v out) z w in
-        (ap (λ (q : Answered × (List ℕ × List ℕ)). (q.0, q.1.1)) f ∙ later_lines i out ∙ ap (λ (n : ℕ). printed_at lines n out) (sym z), ap (λ (q : Answered × (List ℕ × List ℕ)). q.1.0) f ∙ ap (λ (b : Bool). pick b (answer_of line after).1 after) (ne_eqb (suc i) 0 (λ (z : suc i ≡ 0). omega arith)))
+        (ap (λ (q : Option ℕ × (List ℕ × List ℕ)). (q.0, q.1.1)) f ∙ later_lines i out ∙ ap (λ (n : ℕ). printed_at lines n out) (sym z), ap (λ (q : Option ℕ × (List ℕ × List ℕ)). q.1.0) f ∙ ap (λ (b : Bool). pick b (answer_of line after).1 after) (ne_eqb (suc i) 0 (λ (z : suc i ≡ 0). omega arith)))
 
 -- the ways of one output line
-module _ (of : Source) (line : List ℕ) (k : ℕ) (words out : List ℕ) (got : Answered × (List ℕ × List ℕ)) where
+module _ (of : Source) (line : List ℕ) (k : ℕ) (words out : List ℕ) (got : Option ℕ × (List ℕ × List ℕ)) where
   pub session_line : of ≡ source.Session → got ≡ answered_by line k words out → got ≡ line_at of line k words out
   unfolding line_at
   session_line e f = f ∙ ap (λ (q : Source). line_at q line k words out) (sym e)
@@ -91,13 +90,13 @@ form_stays : (k : ℕ) (known : Judged) (line words₀ words : List ℕ) → Spa
 form_stays zero known line words₀ words s = s
 form_stays (suc k) known line words₀ words s = s
 
-space_told : (of : Source) (k : ℕ) (line words₀ words out : List ℕ) (r : Answered) (x y : List ℕ) → (r, (x, y)) ≡ line_at of line k words out → Space k of line words₀ words → ((r, y) ≡ printed_at (lines_of of line words₀) k out) × (x ≡ space_of of line words₀)
+space_told : (of : Source) (k : ℕ) (line words₀ words out : List ℕ) (r : Option ℕ) (x y : List ℕ) → (r, (x, y)) ≡ line_at of line k words out → Space k of line words₀ words → ((r, y) ≡ printed_at (lines_of of line words₀) k out) × (x ≡ space_of of line words₀)
 unfolding line_at lines_of resaved_by
 space_told source.Session zero line words₀ words out r x y e s = first_told line words₀ 0 words out r x y e refl s
 space_told source.Session (suc k) line words₀ words out r x y e s = later_told line words₀ (suc k) words out r x y e k refl s
 space_told (source.Form known) k line words₀ words out r x y e s =
     let f : (r, (x, y)) ≡ resaved_by known k words₀ out = e ∙ ap (λ (w : List ℕ). resaved_by known k w out) (form_stays k known line words₀ words s) in
-    (ap told f, ap (λ (q : Answered × (List ℕ × List ℕ)). q.1.0) f)
+    (ap told f, ap (λ (q : Option ℕ × (List ℕ × List ℕ)). q.1.0) f)
 
 all_count : (of : Source) (line words : List ℕ) → length (lines_of of line words) ≤ most_form_lines
 unfolding lines_of
@@ -123,11 +122,11 @@ module _ (of : Source) (line words₀ : List ℕ) (count₀ : ℕ) (pending₀ :
   replying_start h = record { left = refl; space_is = refl; place = omega arith; has_room_lem = h; words_long = refl; pending_long = refl }
 
   module _ (words : List ℕ) (count : ℕ) (pending : List ℕ) (k : ℕ) (R : Replying of line words₀ count₀ pending₀ words count pending k) where
-    module _ (out : List ℕ) (r : Answered) (x y : List ℕ) (e : (r, (x, y)) ≡ line_at of line k words out) where
+    module _ (out : List ℕ) (r : Option ℕ) (x y : List ℕ) (e : (r, (x, y)) ≡ line_at of line k words out) where
       asked : ((r, y) ≡ printed_at (lines_of of line words₀) k out) × (x ≡ space_of of line words₀)
       asked = space_told of k line words₀ words out r x y e R.space_is
 
-      pub replying_turn : k < most_form_lines → (n : ℕ) → r ≡ Line n → (m : ℕ) (p : List ℕ) → (m, p) ≡ pushed (take (n - 0) y) (count, pending) → HasRoom m p → length x ≡ length words → length p ≡ length pending → Replying of line words₀ count₀ pending₀ x m p (k + 1)
+      pub replying_turn : k < most_form_lines → (n : ℕ) → r ≡ Some n → (m : ℕ) (p : List ℕ) → (m, p) ≡ pushed (take (n - 0) y) (count, pending) → HasRoom m p → length x ≡ length words → length p ≡ length pending → Replying of line words₀ count₀ pending₀ x m p (k + 1)
       replying_turn h n f m p g w v u = record {
         left = one_more (lines_of of line words₀) (count₀, pending₀) k count pending R.left out r y asked.0 n m p f g;
         space_is = rw (add-one k) asked.1;
@@ -137,7 +136,7 @@ module _ (of : Source) (line words₀ : List ℕ) (count₀ : ℕ) (pending₀ :
         pending_long = u ∙ R.pending_long;
       }
 
-      pub replying_ended : r ≡ End → (x, (count, pending)) ≡ put of line (words₀, (count₀, pending₀))
+      pub replying_ended : r ≡ None → (x, (count, pending)) ≡ put of line (words₀, (count₀, pending₀))
       replying_ended f =
           ap₂ (λ (w : List ℕ) (g : Gathered). (w, g)) asked.1 (sym (no_more (lines_of of line words₀) (count₀, pending₀) k count pending R.left out r y asked.0 f))
           ∙ all_put of line words₀ (count₀, pending₀)

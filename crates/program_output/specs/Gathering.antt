@@ -1,8 +1,8 @@
 -- Output lines gathered in a space until they are written: all of them for a line to a station, and for a form that is at its end.
+use Rattle.std.specs.Prelude.{Option}
 use Rattle.std.specs.Prelude.{ℕ, ◌+◌, ◌-◌, ◌≤◌, List, [], ◌∷◌, ◌++◌, leb, drop, length, take}
 use Rattle.line_hex.specs.Choice.{pick}
 use Rattle.line_hex.specs.Hex.{hex_line}
-use Rattle.call_answer.specs.declared.Answered.{Answered}
 use Rattle.calls.specs.Answers.{answered_by, answer_of, lines_for, longest_answer}
 use Rattle.form_judge.specs.declared.Judged.{Judged}
 use Rattle.form_judge.specs.Judging.{resaved_by, resaved_lines}
@@ -52,7 +52,7 @@ unfoldable pub lines_of : Source → List ℕ → List ℕ → List (List ℕ)
 lines_of source.Session line words = lines_for line words
 lines_of (source.Form known) line words = resaved_lines known words
 
-unfoldable pub line_at : Source → List ℕ → ℕ → List ℕ → List ℕ → Answered × (List ℕ × List ℕ)
+unfoldable pub line_at : Source → List ℕ → ℕ → List ℕ → List ℕ → Option ℕ × (List ℕ × List ℕ)
 line_at source.Session line k words out = answered_by line k words out
 line_at (source.Form known) line k words out = resaved_by known k words out
 

@@ -5,7 +5,6 @@ ghost use Rattle.std.specs.Prelude.{◌≡◌, ◌+◌, ◌≤◌, length};
 ghost use Rattle.calls.specs.Answers.{longest_answer};
 ghost use Rattle.program_output.specs.Gathering.{HasRoom, joined, line_at, pushed, put};
 
-use call_answer::Answered;
 use form_judge::Judged;
 use std::io::Stdout;
 
@@ -84,7 +83,7 @@ fn output_line(
     line: &[u8],
     k: usize,
     out: &mut [u8; calls::LONGEST_ANSWER],
-) -> Answered
+) -> Option<usize>
     ensures { (result, (space.new, out.new))
         ≡ line_at source line.now k space.old out.old }
 {
@@ -111,8 +110,8 @@ pub fn gather(
     let mut waits = waiting;
     for k in 0..MOST_LINES {
         match output_line(space, source, line, k, &mut out) {
-            Answered::Line(n) => waits = push(pending, waits, &out[0..n]),
-            Answered::End => return waits,
+            Some(n) => waits = push(pending, waits, &out[0..n]),
+            None => return waits,
         }
     }
     waits

@@ -12,8 +12,8 @@ slice_bounds-push-end c = search (line_within, rules)
 pub push-waits-requires : goal.push-waits-requires
 push-waits-requires c = (search rules, search line_short)
 
-pub returns-in-End : goal.returns-in-End
-returns-in-End c = (search replying_ended, search rules)
+pub returns-in-None : goal.returns-in-None
+returns-in-None c = (search replying_ended, search rules)
 
 pub loop-k-preserved : goal.loop-k-preserved
 loop-k-preserved c = search replying_turn
