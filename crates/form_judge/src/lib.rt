@@ -2,11 +2,11 @@
 #![tactic(auto)]
 
 ghost use Rattle.std.specs.Prelude.{◌≡◌};
+ghost use Rattle.refusal_number.specs.Numbers.{numbered};
 ghost use Rattle.form_judge.specs.Judging.{judged_as, judged_by, judged_end, resaved_by};
 
-use call_answer::Answered;
 use form_take::Loaded;
-use refusal_number::WRONG;
+use refusal_number::Refusal;
 
 // The line that asks for the form.
 const PRINT: [u8; 3] = [b'6', b'0', line_hex::LF];
@@ -20,13 +20,13 @@ pub enum Judged {
 }
 
 // What a line of a form says of the whole of it.
-fn verdict(loaded: Loaded) -> Judged
-    ensures { result ≡ judged_as loaded }
+fn verdict(loaded: Result<Loaded, Refusal>) -> Judged
+    ensures { result ≡ judged_as (numbered loaded) }
 {
     match loaded {
-        Loaded::Refused(number) => Judged::Refused(number),
-        Loaded::Taken => Judged::Open,
-        Loaded::Table => Judged::Closed,
+        Ok(Loaded::Taken) => Judged::Open,
+        Ok(Loaded::Table) => Judged::Closed,
+        Err(refusal) => Judged::Refused(refusal.number()),
     }
 }
 
@@ -36,7 +36,7 @@ pub fn judge(space: &mut [u32], line: &[u8], before: Judged) -> Judged
 {
     match before {
         Judged::Open => verdict(form_load::load_line(space, line)),
-        Judged::Closed => Judged::Refused(WRONG),
+        Judged::Closed => Judged::Refused(Refusal::Wrong.number()),
         Judged::Refused(number) => Judged::Refused(number),
     }
 }
@@ -47,8 +47,9 @@ pub fn judge_end(space: &mut [u32], before: Judged) -> Judged
 {
     match before {
         Judged::Open => {
-            form_load::load_end(space);
-            Judged::Refused(WRONG)
+            // The table, if one is there, is not the form's.
+            let _ = form_load::load_end(space);
+            Judged::Refused(Refusal::Wrong.number())
         }
         Judged::Closed => Judged::Closed,
         Judged::Refused(number) => Judged::Refused(number),
@@ -61,11 +62,11 @@ pub fn resave(
     before: Judged,
     k: usize,
     out: &mut [u8; calls::LONGEST_ANSWER],
-) -> Answered
+) -> Option<usize>
     ensures { (result, (space.new, out.new)) ≡ resaved_by before k space.old out.old }
 {
     match before {
-        Judged::Open => Answered::End,
+        Judged::Open => None,
         Judged::Closed => calls::answer(space, &PRINT, k, out),
         Judged::Refused(number) => call_answer::refuse_at(number, k, out),
     }

@@ -4,15 +4,14 @@
 ghost use Rattle.std.specs.Prelude.{◌≡◌, true, ◌≤◌, length};
 ghost use Rattle.words_layout.specs.Layout.{clock_at};
 ghost use Rattle.line_decode.specs.Decoding.{bytes_of};
+ghost use Rattle.refusal_number.specs.Numbers.{numbered};
 ghost use Rattle.call_checked.specs.Called.{opened_by};
 ghost use Rattle.form_row.specs.LoadHead.{LoadHead};
 ghost use Rattle.form_load.specs.Loading.{begun, behind_lasts, first_taken, head_loads, load_ended, load_waits, loaded_by, next_in, taken_as, under_load, waits};
 
-use call_checked::Opened;
 use form_take::Loaded;
-use form_write::Sought;
 use line_decode::LineKind;
-use refusal_number::{MISSHAPEN, WRONG};
+use refusal_number::Refusal;
 use words_layout::{
     CAPACITY_AT, CLOCK_AT, COUNT_AT, KINDS_AT, LOADING_AT, MARK_AT, OBJECTS_AT, OWN_AT, SIZE_AT,
     TABLE_MARK,
@@ -35,17 +34,13 @@ pub enum Next {
 }
 
 // What comes next behind the last vectors.
-fn behind_lasts(found: Sought) -> Next
+fn behind_lasts(found: Result<usize, usize>) -> Next
     ensures { result ≡ behind_lasts found }
 {
     match found {
-        Sought::At(object) => Next::Total(object),
-        Sought::Behind(more) => {
-            if more == 0 {
-                return Next::Rows;
-            }
-            Next::Nothing
-        }
+        Ok(object) => Next::Total(object),
+        Err(0) => Next::Rows,
+        Err(_) => Next::Nothing,
     }
 }
 
@@ -74,9 +69,7 @@ fn waits_for(next: Next, rows: RowCount) -> bool
     ensures { result ≡ waits next rows.0 }
 {
     match next {
-        Next::Clock => rows.0 == 0,
-        Next::Last(station) => rows.0 == 0,
-        Next::Total(object) => rows.0 == 0,
+        Next::Clock | Next::Last(_) | Next::Total(_) => rows.0 == 0,
         Next::Rows => true,
         Next::Nothing => false,
     }
@@ -128,9 +121,9 @@ fn under_load(space: &[u32]) -> bool
 }
 
 // The bytes of a line to a space under load, by what comes next.
-fn take_bytes(space: &mut [u32], bytes: &[u8]) -> Loaded
+fn take_bytes(space: &mut [u32], bytes: &[u8]) -> Result<Loaded, Refusal>
     requires { under_load space.old ≡ true }
-    ensures { (result, space.new) ≡ taken_as (next_in space.old) bytes.now space.old }
+    ensures { (numbered result, space.new) ≡ taken_as (next_in space.old) bytes.now space.old }
 {
     match next_in(space) {
         Next::Clock => form_take::take_clock(space, bytes),
@@ -142,9 +135,9 @@ fn take_bytes(space: &mut [u32], bytes: &[u8]) -> Loaded
 }
 
 // A line to a space under load.
-fn take_line(space: &mut [u32], line: &[u8]) -> Loaded
+fn take_line(space: &mut [u32], line: &[u8]) -> Result<Loaded, Refusal>
     requires { under_load space.old ≡ true }
-    ensures { (result, space.new) ≡ taken_as (next_in space.old) (bytes_of line.now) space.old }
+    ensures { (numbered result, space.new) ≡ taken_as (next_in space.old) (bytes_of line.now) space.old }
 {
     let mut bytes = [0u8; line_read::LONGEST];
     let n = line_decode::decode_line(line, &mut bytes);
@@ -152,33 +145,28 @@ fn take_line(space: &mut [u32], line: &[u8]) -> Loaded
 }
 
 // An opening line begins a load: the fresh table is marked as one under load.
-fn begin(space: &mut [u32], line: &[u8]) -> Loaded
-    ensures { (result, space.new) ≡ begun (opened_by line.now space.old) }
+fn begin(space: &mut [u32], line: &[u8]) -> Result<Loaded, Refusal>
+    ensures { (numbered result, space.new) ≡ begun (opened_by line.now space.old) }
 {
-    match call_checked::open_line(space, line) {
-        Opened::Refused(number) => Loaded::Refused(number),
-        Opened::Fresh => {
-            space[LOADING_AT] = OPENED;
-            Loaded::Taken
-        }
-    }
+    call_checked::open_line(space, line)?;
+    space[LOADING_AT] = OPENED;
+    Ok(Loaded::Taken)
 }
 
 // A line when no load is under way.
-fn first_line(space: &mut [u32], line: &[u8]) -> Loaded
-    ensures { (result, space.new) ≡ first_taken line.now space.old }
+fn first_line(space: &mut [u32], line: &[u8]) -> Result<Loaded, Refusal>
+    ensures { (numbered result, space.new) ≡ first_taken line.now space.old }
 {
-    let kind = line_decode::kind_of(line);
-    match kind {
+    match line_decode::kind_of(line) {
         LineKind::Opening => begin(space, line),
-        LineKind::Saved => Loaded::Refused(WRONG),
-        _ => Loaded::Refused(MISSHAPEN),
+        LineKind::Saved => Err(Refusal::Wrong),
+        _ => Err(Refusal::Misshapen),
     }
 }
 
 // The next line of a form to a space: taken, refused with its number, or the one that makes the space a table.
-pub fn load_line(space: &mut [u32], line: &[u8]) -> Loaded
-    ensures { (result, space.new) ≡ loaded_by line.now space.old }
+pub fn load_line(space: &mut [u32], line: &[u8]) -> Result<Loaded, Refusal>
+    ensures { (numbered result, space.new) ≡ loaded_by line.now space.old }
 {
     if under_load(space) {
         return take_line(space, line);
@@ -187,14 +175,14 @@ pub fn load_line(space: &mut [u32], line: &[u8]) -> Loaded
 }
 
 // The end of a form: nothing where its table is there, zeros where the load is not closed.
-pub fn load_end(space: &mut [u32]) -> Loaded
-    ensures { (result, space.new) ≡ load_ended space.old }
+pub fn load_end(space: &mut [u32]) -> Result<Loaded, Refusal>
+    ensures { (numbered result, space.new) ≡ load_ended space.old }
 {
     if table_rules::is_table(space) {
-        return Loaded::Table;
+        return Ok(Loaded::Table);
     }
     if under_load(space) {
         return form_take::spoil(space);
     }
-    Loaded::Refused(WRONG)
+    Err(Refusal::Wrong)
 }
