@@ -69,9 +69,6 @@ pub record Dropping (g : List ℕ → Bool) (s₀ : List ℕ) (w count : ℕ) (s
   pub number : length (left_by g (pieces w count s₀)) ≡ left + length (left_by g (pieces w more (drop from s)))
   pub beyond : drop (count * w) s ≡ drop (count * w) s₀
 
-pub dropping_start : (g : List ℕ → Bool) (s : List ℕ) (w count : ℕ) → count * w ≤ length s → Dropping g s w count s 0 0 count 0
-dropping_start g s w count h = record { place = place_start s w count h; below = omega arith; long = refl; fewer = omega arith; kept = refl; number = omega arith; beyond = refl }
-
 module _ (g : List ℕ → Bool) (s₀ : List ℕ) (w count : ℕ) (s : List ℕ) (from to more left : ℕ) (D : Dropping g s₀ w count s from to more left) (h : 0 < more) where
   abbrev here : List ℕ
   here = take (from + w - from) (drop from s)
@@ -131,9 +128,6 @@ module _ (g : List ℕ → Bool) (s₀ : List ℕ) (w count : ℕ) (s : List ℕ
       let all : flat (left_by g (pieces w count s₀)) ≡ take to s = (rw none at D).kept ∙ append-nil (take to s) in
       let len : length (take to s) ≡ to = length-take-le to s (omega (arith, all_read, D.below, D.place.room)) in
       rw (all, len, ← D.beyond, ← all_read) e
-
-  pub done_room : from ≤ length s
-  done_room = omega (arith, all_read, D.place.room)
 
 -- a turn at row i, which stands at place `from` and is left or not
 module _ (g : List ℕ → Bool) (s₀ : List ℕ) (w count : ℕ) (s : List ℕ) (i to left : ℕ) (D : Dropping g s₀ w count s (i * w) to (count - i) left) (h : i < count) (from : ℕ) (at : from ≡ i * w) where
