@@ -1,6 +1,6 @@
 -- What `all` and `fold` answer at the end of a chain of iterators, as the test `every` of the list that the chain gives.
 use mathlib.Core.Path.{◌≡◌, refl, sym, ap, ◌∙◌}
-use mathlib.Core.Bool.{Bool, true, false, ◌&&◌}
+use mathlib.Core.Bool.{Bool, true, false, ◌&&◌, cond}
 use mathlib.Core.List.{List, [], ◌∷◌, ◌++◌}
 use Prim.Native.Nat.{ℕ, zero, suc, ◌<◌}
 use native.Mathlib.Omega.{arith}
@@ -9,12 +9,12 @@ use denote.Param.Members.{Mut}
 use Rattle.std.specs.Bool.{MatchBool}
 use Rattle.std.specs.Fn.{Called}
 use Rattle.std.specs.Iterator.{YieldsThen, Drains}
-use Rattle.std.specs.List.{AllWithin, HoldsAt, FoldsTo}
+use Rattle.std.specs.List.{AllWithin, HoldsAt, FoldsTo, filter}
 use Rattle.std.specs.Option.{MatchOption}
 use Rattle.std.specs.declared.option.Option.{Option}
 use Rattle.std.proofs.lemmas.Iterator.{YieldsList, cases_from_all}
 use Rattle.std.proofs.lemmas.Fn.{fold_over}
-use Rattle.meaning.specs.Tests.{every}
+use Rattle.meaning.specs.Tests.{every, those}
 
 module _ {B : Type 0} (test : B → Bool) where
 
@@ -63,3 +63,8 @@ pub every_two_from_fold : {S A B F : Type 0} {steps : S → Option A → S → T
 every_two_from_fold {steps = steps} {v = v} {g = g} {s = s} {all = all} f r one other ran yields computes =
     fold_over steps v g (λ ys a. (a.0 ≡ every one ys) × (a.1 ≡ every other ys)) f
     (λ ys a x b q e k. let p = computes a x b q k in ((p.1 ∙ ap (λ t. t && one (v x)) e.0 ∙ sym (every-push one ys (v x)), p.2 ∙ ap (λ t. t && other (v x)) e.1 ∙ sym (every-push other ys (v x))), p.0)) s all (true, true) r yields.runs (refl, refl) ran
+
+-- the elements that meet a test are those that `filter` leaves
+pub those_by_filter : {B : Type 0} (test : B → Bool) (l : List B) → those test l ≡ filter test l
+those_by_filter test [] = refl
+those_by_filter test (x ∷ l) = elim (test x) as (λ b. cond b (x ∷ those test l) (those test l) ≡ cond b (x ∷ filter test l) (filter test l)) [ true ↦ ap (λ m. x ∷ m) (those_by_filter test l) | false ↦ those_by_filter test l ]

@@ -41,9 +41,6 @@ module _ (s : List ℕ) (n count : ℕ) (a : Arrival) (v : Vector) (O : Opened s
   abbrev part : List ℕ
   part = take (length s - base) (drop base s)
 
-  pub rows_fit : count * (7 + n) ≤ length part
-  rows_fit = rw (all_of s base, length-drop base s) (omega (arith, O.room, start))
-
   left_words : List (List ℕ)
   left_words = those (λ (ws : List ℕ). not (row_goes a v ws)) (rows_in s)
 

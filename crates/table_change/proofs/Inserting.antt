@@ -1,5 +1,5 @@
 -- A row put at its place in the words is the row put in the record.
-use Rattle.std.proofs.Common.{◌≡◌, ℕ, suc, ◌+◌, ◌-◌, ◌*◌, ◌<◌, ◌≤◌, List, ◌++◌, length, take, drop, set, replicate, sym, refl, ap, ◌∙◌, append_assoc, append-nil, mul-le-mul_right, suc-mul, add-one, arith, length-append, length-drop, drop-drop}
+use Rattle.std.proofs.Common.{◌≡◌, ℕ, suc, ◌+◌, ◌-◌, ◌*◌, ◌<◌, ◌≤◌, List, ◌++◌, length, take, drop, set, replicate, sym, refl, ap, ◌∙◌, append_assoc, append-nil, mul-le-mul_right, suc-mul, add-one, arith, length-append, drop-drop}
 use Rattle.meaning.specs.Rows.{Row, insert_row}
 use Rattle.meaning.specs.Calls.{with_rows}
 use Rattle.words_layout.specs.Words.{pieces, flat, padded}
@@ -10,19 +10,6 @@ use Rattle.table_insert.specs.Placing.{inserted}
 use Rattle.table_insert.proofs.Ordering.{inserted_rows, inserted_spelt, inserted_long, inserted_wide}
 use Rattle.table_change.specs.Changes.{Opened}
 use Rattle.table_change.proofs.Changing.{all_of, nothing_behind}
-
-module _ (s key v : List ℕ) (n count : ℕ) (O : Opened s n count) (less : count < capacity_in s) (seven : length key ≡ 7) (long : length v ≡ n) (spelt : row_words n (row_of (key ++ v)) ≡ key ++ v) (base : ℕ) (start : base ≡ rows_at n) where
-  abbrev part : List ℕ
-  part = take (length s - base) (drop base s)
-
-  wider : count * (7 + n) + (7 + n) ≤ capacity_in s * (7 + n)
-  wider = let h : suc count * (7 + n) ≤ capacity_in s * (7 + n) = mul-le-mul_right (7 + n) less in omega (arith, suc-mul count (7 + n))
-
-  room : base + capacity_in s * (7 + n) ≤ length s
-  room = rw (start, O.size_is) O.laid.room
-
-  pub insert_room : count * (7 + n) + (7 + n) ≤ length part
-  insert_room = rw (all_of s base, length-drop base s) (omega (arith, room, wider))
 
 -- with the head's own numbers
 module _ (s key v : List ℕ) (T : Laid s) (less : count_in s < capacity_in s) (seven : length key ≡ 7) (long : length v ≡ size_in s) (spelt : row_words (size_in s) (row_of (key ++ v)) ≡ key ++ v) where

@@ -1,4 +1,3 @@
-pub mod Wrapping
 pub mod Changing
 pub mod Inserting
 pub mod Parts

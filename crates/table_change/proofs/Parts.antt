@@ -1,5 +1,5 @@
 -- The clock and the last vectors where they stand.
-use Rattle.std.proofs.Common.{◌≡◌, ℕ, suc, ◌+◌, ◌-◌, ◌*◌, ◌<◌, ◌≤◌, List, ◌++◌, length, get_or, take, drop, set, refl, ap, ◌∙◌, append_assoc, mul-le-mul_right, suc-mul, arith, length-drop, length-take-le, take_all, drop-drop, w64, Fits}
+use Rattle.std.proofs.Common.{◌≡◌, ℕ, ◌+◌, ◌-◌, ◌*◌, ◌<◌, ◌≤◌, List, ◌++◌, length, get_or, take, drop, set, refl, ap, ◌∙◌, append_assoc, arith, length-drop, length-take-le, take_all, drop-drop}
 use lib.Seq.{paste}
 use Rattle.meaning.specs.Order.{entry_limit, raised}
 use Rattle.words_layout.specs.Layout.{table_of, rewritten, size_in, with_clock, with_last, clock_at}
@@ -24,18 +24,6 @@ module _ (s : List ℕ) (n count : ℕ) (O : Opened s n count) where
 
   -- the station's place as the code has it
   module _ (k r : ℕ) (h : k < n) (same : r ≡ k) where
-    inside : r * n + n ≤ n * n
-    inside = let m : suc k * n ≤ n * n = mul-le-mul_right n h in rw same (omega (arith, suc-mul k n))
-
-    pub last_fits : Fits w64 (r * n)
-    last_fits = omega (arith, inside, O.square)
-
-    pub last_at_fits : Fits w64 (clock_at + n + r * n)
-    last_at_fits = omega (arith, inside, O.square, O.few)
-
-    pub last_room : (v : List ℕ) → length v ≡ n → clock_at + n + r * n + length v ≤ length s
-    last_room v e = omega (arith, inside, O.room)
-
     pub last_written : (v x : List ℕ) → length v ≡ n → x ≡ paste s (clock_at + n + r * n) v (length v) → x ≡ rewritten s (with_last (table_of s) (set (table_of s).last k v))
     last_written v x e f =
         let whole : take (length v) v ≡ v = take_all (length v) v (omega arith) in

@@ -1,5 +1,5 @@
 -- A total where it stands.
-use Rattle.std.proofs.Common.{◌≡◌, ℕ, zero, suc, ◌+◌, ◌*◌, ◌<◌, ◌≤◌, Bool, List, [], ◌∷◌, ◌++◌, map, length, get_or, take, drop, set, ℤ, pos, ◌+ℤ◌, sym, refl, ap, ◌∙◌, arith, length-drop, length-set, get_or-drop}
+use Rattle.std.proofs.Common.{◌≡◌, ℕ, zero, suc, ◌+◌, ◌*◌, ◌<◌, ◌≤◌, Bool, List, [], ◌∷◌, ◌++◌, map, length, get_or, take, drop, set, ℤ, pos, ◌+ℤ◌, sym, refl, ap, ◌∙◌, arith, length-drop, get_or-drop}
 use Rattle.words_layout.specs.Words.{pieces}
 use Rattle.words_layout.specs.Layout.{table_of, rewritten, objects_in, total_words, total_of_words, with_totals, totals_at}
 use Rattle.words_layout.proofs.Changing.{put_total}
@@ -31,9 +31,6 @@ module _ (s : List ℕ) (n count o : ℕ) (O : Opened s n count) (h : o < object
 
   pub total_room : totals_at + o * 2 + 1 < length s
   total_room = omega (arith, few, O.room)
-
-  pub total_room_set : (x : ℕ) → totals_at + o * 2 + 1 < length (set s (totals_at + o * 2) x)
-  total_room_set x = rw (length-set s (totals_at + o * 2) x) total_room
 
   pub old_total : total_of_words (get_or s (totals_at + o * 2) 0 ∷ get_or s (totals_at + o * 2 + 1) 0 ∷ []) ≡ get_or (table_of s).totals o (pos 0)
   unfolding table_of

@@ -2,8 +2,8 @@
 // Totals in two words, two's complement: an amount added or taken away, wrapping as 64 bits do.
 #![tactic(auto)]
 
-ghost use Rattle.std.specs.Prelude.{◌≡◌, ◌+◌, ◌-◌, ◌*◌, ◌%◌, ◌<◌, [], ◌∷◌, ◌++◌, length, pos, ◌+ℤ◌, neg_ℤ, slice_set};
-ghost use Rattle.words_layout.specs.Words.{two_word_limit, word_limit};
+ghost use Rattle.std.specs.Prelude.{◌≡◌, ◌+◌, ◌-◌, ◌*◌, ◌%◌, ◌<◌, [], ◌∷◌, ◌++◌, length, pos, ◌+ℤ◌, slice_set};
+ghost use Rattle.words_layout.specs.Words.{word_limit};
 ghost use Rattle.words_layout.specs.Layout.{total_of_words, total_words, capacity_in, objects_in, rewritten, row_of, row_words, table_of, with_clock, with_last, with_totals};
 ghost use Rattle.table_change.specs.TotalChange.{change};
 ghost use Rattle.meaning.specs.Order.{raised};
@@ -16,56 +16,41 @@ use table_drop::Arrival;
 use words_layout::{CLOCK_AT, COUNT_AT, KEY, TOTAL_WORDS, TOTALS_AT};
 use words_tags::{RowCount, Station};
 
+// One more than the greatest number of a word.
+const WORD_LIMIT: u64 = u32::MAX as u64 + 1;
+
 // The high word and the low word.
-#[derive(Clone, Copy)]
+#[derive(Clone, Copy, PartialEq, Eq, Debug)]
 pub struct Total(pub u32, pub u32);
 
-// The words of a number that is higher by an amount.
-fn words_plus(t: Total, amount: u32) -> Total
-    ensures { result.0 * word_limit + result.1 ≡ (t.0 * word_limit + t.1 + amount) % two_word_limit }
-{
-    let low = std::num::wrapping_add_u32(t.1, amount);
-    if low < amount {
-        Total(std::num::wrapping_add_u32(t.0, 1), low)
-    } else {
-        Total(t.0, low)
+// Its two words as one number.
+impl From<Total> for u64 {
+    ghost from_gives = { λ t code. code ≡ t.0 * word_limit + t.1 };
+
+    fn from(t: Total) -> u64 {
+        u64::from(t.0) * WORD_LIMIT + u64::from(t.1)
     }
 }
 
-// The words of a number that is lower by an amount.
-fn words_minus(t: Total, amount: u32) -> Total
-    ensures { result.0 * word_limit + result.1 ≡ (t.0 * word_limit + t.1 + two_word_limit - amount) % two_word_limit }
-{
-    let low = std::num::wrapping_sub_u32(t.1, amount);
-    if t.1 < amount {
-        Total(std::num::wrapping_sub_u32(t.0, 1), low)
-    } else {
-        Total(t.0, low)
+// A number as two words.
+impl From<u64> for Total {
+    ghost from_gives = { λ code t. t.0 * word_limit + t.1 ≡ code };
+
+    fn from(code: u64) -> Total {
+        Total((code / WORD_LIMIT) as u32, (code % WORD_LIMIT) as u32)
     }
-}
-
-// The total with an amount more.
-fn increased(t: Total, amount: u32) -> Total
-    ensures { result.0 ∷ result.1 ∷ [] ≡ total_words (total_of_words (t.0 ∷ t.1 ∷ []) +ℤ pos amount) }
-{
-    words_plus(t, amount)
-}
-
-// The total with an amount less.
-fn decreased(t: Total, amount: u32) -> Total
-    ensures { result.0 ∷ result.1 ∷ [] ≡ total_words (total_of_words (t.0 ∷ t.1 ∷ []) +ℤ neg_ℤ (pos amount)) }
-{
-    words_minus(t, amount)
 }
 
 // The total after an increase or a decrease.
 pub fn changed(t: Total, amount: u32, increase: bool) -> Total
     ensures { result.0 ∷ result.1 ∷ [] ≡ total_words (total_of_words (t.0 ∷ t.1 ∷ []) +ℤ change increase amount) }
 {
+    let code = u64::from(t);
     if increase {
-        return increased(t, amount);
+        Total::from(code.wrapping_add(u64::from(amount)))
+    } else {
+        Total::from(code.wrapping_sub(u64::from(amount)))
     }
-    decreased(t, amount)
 }
 
 // Drops the rows that go when an operation arrives, and counts the others.

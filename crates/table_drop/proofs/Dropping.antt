@@ -2,6 +2,7 @@
 use Prim.Native.Nat.{ℕ, zero, suc, ◌+◌, ◌-◌, ◌*◌, ◌≤◌, ◌<◌}
 use mathlib.Core.Path.{◌≡◌, refl, sym, ap, ◌∙◌}
 use mathlib.Core.Bool.{Bool, true, false}
+use native.Mathlib.Numerals.{add-one}
 use mathlib.Core.List.{List, ◌∷◌, ◌++◌, append_assoc, append-nil}
 use native.Mathlib.Nat.{suc-mul}
 use native.Mathlib.Omega.{arith}
@@ -58,40 +59,6 @@ goes_one : (g : List ℕ → Bool) (row : List ℕ) (l : List (List ℕ)) → g 
 unfolding left_by
 goes_one g row l e = rw e refl
 
--- counting the rows that a test leaves
-pub record Counting (g : List ℕ → Bool) (w count : ℕ) (s : List ℕ) (from more left : ℕ) : Type 0 where
-  pub place : Place w count s from more
-  pub fewer : left + more ≤ count
-  pub number : length (left_by g (pieces w count s)) ≡ left + length (left_by g (pieces w more (drop from s)))
-
-pub counting_start : (g : List ℕ → Bool) (s : List ℕ) (w count : ℕ) → count * w ≤ length s → Counting g w count s 0 count 0
-counting_start g s w count h = record { place = place_start s w count h; fewer = omega arith; number = omega arith }
-
-module _ (g : List ℕ → Bool) (s : List ℕ) (w count from more left : ℕ) (C : Counting g w count s from more left) (h : 0 < more) where
-  abbrev row : List ℕ
-  row = take (from + w - from) (drop from s)
-
-  abbrev rest : List (List ℕ)
-  rest = pieces w (more - 1) (drop (from + w) s)
-
-  pub counting_skip : (r : Bool) → r ≡ g row → r ≡ true → Counting g w count s (from + w) (more - 1) left
-  counting_skip r e t = record {
-    place = place_next s w count from more C.place h;
-    fewer = omega (arith, C.fewer);
-    number = C.number ∙ ap (λ (l : List (List ℕ)). left + length (left_by g l)) (ahead s w count from more C.place h) ∙ rw (goes_one g row rest (sym e ∙ t)) refl;
-  }
-
-  pub counting_keep : (r : Bool) → r ≡ g row → r ≡ false → Counting g w count s (from + w) (more - 1) (left + 1)
-  counting_keep r e t = record {
-    place = place_next s w count from more C.place h;
-    fewer = omega (arith, C.fewer);
-    number = C.number ∙ ap (λ (l : List (List ℕ)). left + length (left_by g l)) (ahead s w count from more C.place h) ∙ rw (stays_one g row rest (sym e ∙ t)) (omega arith);
-  }
-
-pub counting_done : (g : List ℕ → Bool) (s : List ℕ) (w count from more left : ℕ) → Counting g w count s from more left → more ≤ 0 → left ≡ length (left_by g (pieces w count s))
-unfolding left_by
-counting_done g s w count from more left C h = let z : more ≡ 0 = omega arith in sym ((rw z at C).number ∙ omega arith)
-
 -- dropping the others where they stand: s₀ is the slice at entry; the kept rows end at place `to`
 pub record Dropping (g : List ℕ → Bool) (s₀ : List ℕ) (w count : ℕ) (s : List ℕ) (from to more left : ℕ) : Type 0 where
   pub place : Place w count s from more
@@ -101,9 +68,6 @@ pub record Dropping (g : List ℕ → Bool) (s₀ : List ℕ) (w count : ℕ) (s
   pub kept : flat (left_by g (pieces w count s₀)) ≡ take to s ++ flat (left_by g (pieces w more (drop from s)))
   pub number : length (left_by g (pieces w count s₀)) ≡ left + length (left_by g (pieces w more (drop from s)))
   pub beyond : drop (count * w) s ≡ drop (count * w) s₀
-
-pub dropping_start : (g : List ℕ → Bool) (s : List ℕ) (w count : ℕ) → count * w ≤ length s → Dropping g s w count s 0 0 count 0
-dropping_start g s w count h = record { place = place_start s w count h; below = omega arith; long = refl; fewer = omega arith; kept = refl; number = omega arith; beyond = refl }
 
 module _ (g : List ℕ → Bool) (s₀ : List ℕ) (w count : ℕ) (s : List ℕ) (from to more left : ℕ) (D : Dropping g s₀ w count s from to more left) (h : 0 < more) where
   abbrev here : List ℕ
@@ -165,5 +129,26 @@ module _ (g : List ℕ → Bool) (s₀ : List ℕ) (w count : ℕ) (s : List ℕ
       let len : length (take to s) ≡ to = length-take-le to s (omega (arith, all_read, D.below, D.place.room)) in
       rw (all, len, ← D.beyond, ← all_read) e
 
-  pub done_room : from ≤ length s
-  done_room = omega (arith, all_read, D.place.room)
+-- a turn at row i, which stands at place `from` and is left or not
+module _ (g : List ℕ → Bool) (s₀ : List ℕ) (w count : ℕ) (s : List ℕ) (i to left : ℕ) (D : Dropping g s₀ w count s (i * w) to (count - i) left) (h : i < count) (from : ℕ) (at : from ≡ i * w) where
+  turned : Dropping g s₀ w count s from to (count - i) left
+  turned = rw at D
+
+  next : (s' : List ℕ) (to' left' : ℕ) → Dropping g s₀ w count s' (from + w) to' (count - i - 1) left' → Dropping g s₀ w count s' ((i + 1) * w) to' (count - (i + 1)) left'
+  next s' to' left' E =
+      let e : (i + 1) * w ≡ from + w = rw (at, add-one i) (omega (arith, suc-mul i w)) in
+      let f : count - (i + 1) ≡ count - i - 1 = omega arith in
+      rw (e, f) E
+
+  pub row_kept : false ≡ g (take (from + w - from) (drop from s)) → (s' : List ℕ) (to' left' : ℕ) → s' ≡ paste s to (drop from s) w → to' ≡ to + w → left' ≡ left + 1 → Dropping g s₀ w count s' ((i + 1) * w) to' (count - (i + 1)) left'
+  row_kept t s' to' left' p e f = next s' to' left' (rw (e, f) (dropping_keep g s₀ w count s from to (count - i) left turned (omega arith) false s' t refl p))
+
+  pub row_gone : true ≡ g (take (from + w - from) (drop from s)) → (s' : List ℕ) (to' left' : ℕ) → s' ≡ s → to' ≡ to → left' ≡ left → Dropping g s₀ w count s' ((i + 1) * w) to' (count - (i + 1)) left'
+  row_gone t s' to' left' p e f = next s' to' left' (rw (p, e, f) (dropping_skip g s₀ w count s from to (count - i) left turned (omega arith) true t refl))
+
+pub rows_dropped : (g : List ℕ → Bool) (s₀ : List ℕ) (w count : ℕ) (s : List ℕ) (i to left end : ℕ) → Dropping g s₀ w count s (i * w) to (count - i) left → i ≡ count → end ≡ count * w
+    → (s' : List ℕ) → s' ≡ take to s ++ replicate (end - to) 0 ++ drop end s → (left ≡ length (left_by g (pieces w count s₀))) × (s' ≡ padded (count * w) (flat (left_by g (pieces w count s₀))) ++ drop (count * w) s₀)
+rows_dropped g s₀ w count s i to left end D all e s' p =
+    let q : end ≡ i * w = rw (all, e) refl in
+    let z : count - i ≤ 0 = omega arith in
+    (dropping_count g s₀ w count s (i * w) to (count - i) left D z, dropping_done g s₀ w count s (i * w) to (count - i) left D z s' (rw q at p))

@@ -1,93 +1,47 @@
 -- The order of keys word by word; finding the place; the moves together are the insertion.
-use Prim.Native.Nat.{ℕ, suc, ◌+◌, ◌-◌, ◌*◌, ◌≤◌, ◌<◌}
+use Prim.Native.Nat.{ℕ, ◌+◌, ◌*◌, ◌≤◌, ◌<◌}
 use mathlib.Core.Path.{◌≡◌, refl, sym, ap, ◌∙◌}
-use mathlib.Core.Bool.{Bool, true, false, ◌&&◌, ◌||◌, cond}
+use mathlib.Core.Bool.{Bool, true, false, cond}
 use mathlib.Core.List.{List, [], ◌∷◌, ◌++◌, append_assoc}
-use native.Mathlib.Nat.{suc-mul}
 use native.Mathlib.Numerals.{add-one}
 use native.Mathlib.Omega.{arith}
-use borrow.Author.Tests.{lt-ltb, le-ltb, eq-eqb, ne_eqb}
-use lib.Dec.{ltb, eqb}
-use lib.ListN.{length, get_or, take, drop, length-drop, length-append}
-use lib.Seq.{paste, slice, length-take-le, drop-cons, drop-drop, take-take, take-append-le, take-append-add, drop-append-add, drop_at, take_all, take-paste, drop-paste}
-use mir.Val.{Fits}
-use mir.Syntax.{w64}
+use lib.ListN.{length, take, drop, length-append}
+use lib.Seq.{paste, slice, length-take-le, drop-drop, take-take, take-append-le, take-append-add, drop-append-add, drop_at, take_all, take-paste, drop-paste}
 use Rattle.meaning.specs.Rows.{lower_key}
 use Rattle.words_layout.specs.Words.{pieces, flat}
-use Rattle.words_layout.proofs.Pieces.{flat_pieces}
+use Rattle.words_layout.proofs.Pieces.{Wide, flat_pieces, length_flat, length_pieces, wide_pieces}
+use Rattle.std.specs.Cmp.Lexicographic.{slice_partial_cmp}
+use Rattle.std.specs.List.{AllWithin, HoldsAt}
+use Rattle.std.specs.Option.{MatchOption, unwrap_or}
+use Rattle.std.specs.Ordering.{nat_cmp, is_lt, is_some_and}
+use Rattle.std.specs.Prelude.{Option, Some}
+use Rattle.std.proofs.lemmas.Bool.Decides.{nat_tests}
+use Rattle.std.proofs.lemmas.Cmp.{same_from_slice_cmp_tested}
+use Rattle.std.proofs.lemmas.Iterator.{index_from_first}
 use Rattle.table_insert.specs.Placing.{inserted, passed}
 
--- word by word
-module _ (xs ys : List ℕ) (i : ℕ) (e : length xs ≡ length ys) (inv : lower_key xs ys ≡ lower_key (drop i xs) (drop i ys)) where
-  lower_step : i < length xs → lower_key xs ys ≡ ltb (get_or xs i 0) (get_or ys i 0) || (eqb (get_or xs i 0) (get_or ys i 0) && lower_key (drop (suc i) xs) (drop (suc i) ys))
-  lower_step h = inv ∙ rw (drop-cons xs i 0 h, drop-cons ys i 0 (omega arith)) refl
+-- the order of slices is the order of keys
+pub lower_by_slices : (xs ys : List ℕ) (r : Bool) → r ≡ is_some_and is_lt (slice_partial_cmp (λ x y. Some (nat_cmp x y)) xs ys) → r ≡ lower_key xs ys
+lower_by_slices = same_from_slice_cmp_tested nat_cmp is_lt lower_key refl (λ _ _. refl) (λ _ _. refl) (λ x y xs ys o h. grind (arith, nat_tests))
 
-  pub lower_lt : i < length xs → get_or xs i 0 < get_or ys i 0 → true ≡ lower_key xs ys
-  lower_lt h t = sym (lower_step h ∙ rw (lt-ltb (get_or xs i 0) (get_or ys i 0) t) refl)
+-- the place is behind the rows passed, each as wide as the others
+length_passed : (key : List ℕ) (rows : List (List ℕ)) (r : Option ℕ)
+    → MatchOption r (AllWithin (λ row. lower_key key (take 7 row) ≡ false) rows 0 (length rows)) (λ i. (i < length rows) × HoldsAt (λ row. lower_key key (take 7 row) ≡ true) rows i × AllWithin (λ row. lower_key key (take 7 row) ≡ false) rows 0 i)
+    → length (passed key rows) ≡ unwrap_or r (length rows)
+length_passed key =
+    index_from_first (λ rows. length (passed key rows)) (λ row. lower_key key (take 7 row) ≡ true) (λ row. lower_key key (take 7 row) ≡ false) refl
+    (λ row rows e. rw e refl) (λ row rows e. rw e (sym (add-one (length (passed key rows)))))
 
-  pub lower_gt : i < length xs → get_or ys i 0 < get_or xs i 0 → false ≡ lower_key xs ys
-  lower_gt h t = sym (lower_step h ∙ rw (le-ltb (get_or xs i 0) (get_or ys i 0) (omega arith), ne_eqb (get_or xs i 0) (get_or ys i 0) (omega arith)) refl)
+wide_passed : (w : ℕ) (key : List ℕ) (rows : List (List ℕ)) → Wide w rows → Wide w (passed key rows)
+wide_passed w key [] h = tt
+wide_passed w key (row ∷ rows) h = elim (lower_key key (take 7 row)) as (λ b. Wide w (cond b [] (row ∷ passed key rows))) [ true ↦ tt | false ↦ (h.0, wide_passed w key rows h.1) ]
 
-  pub lower_eq : i < length xs → get_or xs i 0 ≤ get_or ys i 0 → get_or ys i 0 ≤ get_or xs i 0 → lower_key xs ys ≡ lower_key (drop (i + 1) xs) (drop (i + 1) ys)
-  lower_eq h t u = lower_step h ∙ rw (le-ltb (get_or xs i 0) (get_or ys i 0) u, eq-eqb (get_or xs i 0) (get_or ys i 0) (omega arith), add-one) refl
-
-  pub lower_end : length xs ≤ i → false ≡ lower_key xs ys
-  lower_end h = sym (inv ∙ go (drop i xs) (drop i ys) (simp length-drop (omega arith)) (simp length-drop (omega arith)))
-    where
-      go : (a b : List ℕ) → length a ≡ 0 → length b ≡ 0 → lower_key a b ≡ false
-      go [] [] q r = refl
-      go [] (y ∷ b) q r = absurd (omega arith)
-      go (x ∷ a) b q r = absurd (omega arith)
-
--- finding the place: `more` rows are ahead from place `at`
-pub record Finding (s key : List ℕ) (w count at more : ℕ) : Type 0 where
-  pub size : at + more * w ≡ count * w
-  pub here : length (flat (passed key (pieces w count s))) ≡ at + length (flat (passed key (pieces w more (drop at s))))
-
-pub finding_start : (s key : List ℕ) (w count : ℕ) → Finding s key w count 0 count
-finding_start s key w count = record { size = omega arith; here = omega arith }
-
--- the key of the row at `at` is what the code compares
-module _ (s key : List ℕ) (w count at : ℕ) (room : count * w ≤ length s) (wide : 7 ≤ w) where
-  row_key : (r : Bool) → r ≡ lower_key key (take (at + 7 - at) (drop at s)) → lower_key key (take 7 (take w (drop at s))) ≡ r
-  row_key r e = let q : at + 7 - at ≡ 7 = omega arith in rw (take-take 7 w (drop at s) wide) (sym (rw q at e))
-
-  past : (k : ℕ) (r : Bool) → r ≡ lower_key key (take (at + 7 - at) (drop at s)) → r ≡ false → Finding s key w count at (suc k) → Finding s key w count (at + w) k
-  past k r e t F =
-      let fits : length (take w (drop at s)) ≡ w = length-take-le w (drop at s) (simp length-drop (omega (arith, F.size, suc-mul k w))) in
-      record {
-        size = omega (arith, F.size, suc-mul k w);
-        here = F.here ∙ rw (row_key r e ∙ t, length-append, drop-drop w at s, fits) (omega arith);
-      }
-
-  stop : (k : ℕ) (r : Bool) → r ≡ lower_key key (take (at + 7 - at) (drop at s)) → r ≡ true → Finding s key w count at (suc k) → at ≡ length (flat (passed key (pieces w count s)))
-  stop k r e t F = sym (F.here ∙ rw (row_key r e ∙ t) (omega arith))
-
-module _ (s key : List ℕ) (w count at more : ℕ) (F : Finding s key w count at more) (room : count * w ≤ length s) where
-  pub finding_done : more ≤ 0 → at ≡ length (flat (passed key (pieces w count s)))
-  finding_done h = let z : more ≡ 0 = omega arith in sym ((rw z at F).here ∙ omega arith)
-
-  module _ (wide : 7 ≤ w) (h : 0 < more) where
-    one : more ≡ suc (more - 1)
-    one = omega arith
-
-    finding_room : at + w ≤ length s
-    finding_room = omega (arith, (rw one at F).size, suc-mul (more - 1) w)
-
-    pub finding_key : at + 7 ≤ length s
-    finding_key = omega (arith, finding_room)
-
-    pub finding_past : (r : Bool) → r ≡ lower_key key (take (at + 7 - at) (drop at s)) → r ≡ false → Finding s key w count (at + w) (more - 1)
-    finding_past r e t = past s key w count at room wide (more - 1) r e t (rw one at F)
-
-    pub finding_found : (r : Bool) → r ≡ lower_key key (take (at + 7 - at) (drop at s)) → r ≡ true → at ≡ length (flat (passed key (pieces w count s)))
-    finding_found r e t = stop s key w count at room wide (more - 1) r e t (rw one at F)
-
-    pub next_fits : length s * 4 < 9223372036854775808 → Fits w64 (at + w)
-    next_fits b = omega (arith, finding_room)
-
-pub key_long : (s key : List ℕ) (at : ℕ) → at + 7 ≤ length s → length key ≡ 7 → length key ≡ length (take (at + 7 - at) (drop at s))
-key_long s key at h k = let q : at + 7 - at ≡ 7 = omega arith in rw q (k ∙ sym (length-take-le 7 (drop at s) (simp length-drop (omega arith))))
+pub place_found : (s key : List ℕ) (w count many : ℕ) (r : Option ℕ) → count * w ≤ length s → many ≡ count
+    → MatchOption r (AllWithin (λ row. lower_key key (take 7 row) ≡ false) (pieces w count s) 0 (length (pieces w count s))) (λ i. (i < length (pieces w count s)) × HoldsAt (λ row. lower_key key (take 7 row) ≡ true) (pieces w count s) i × AllWithin (λ row. lower_key key (take 7 row) ≡ false) (pieces w count s) 0 i)
+    → unwrap_or r many * w ≡ length (flat (passed key (pieces w count s)))
+place_found s key w count many r room e first =
+    let rows = pieces w count s in
+    ap (λ n. unwrap_or r n * w) (e ∙ sym (length_pieces w count s)) ∙ ap (λ n. n * w) (sym (length_passed key rows r first)) ∙ sym (length_flat w (passed key rows) (wide_passed w key rows (wide_pieces w count s room)))
 
 -- an insertion, as words: what is passed, the row, the rest
 flat_inserted : (key v : List ℕ) (rs : List (List ℕ)) → flat (inserted key v rs) ≡ take (length (flat (passed key rs))) (flat rs) ++ ((key ++ v) ++ drop (length (flat (passed key rs))) (flat rs))
@@ -104,9 +58,6 @@ passed_short key [] = omega arith
 passed_short key (x ∷ xs) = elim (lower_key key (take 7 x)) as (λ b. length (flat (cond b [] (x ∷ passed key xs))) ≤ length (x ++ flat xs)) [ true ↦ omega arith | false ↦ simp length-append (omega (arith, passed_short key xs)) ]
 
 -- where the rows end, by their number as a place
-pub rows_fit : (s : List ℕ) (w count many : ℕ) → many ≡ count → count * w + w ≤ length s → length s * 4 < 9223372036854775808 → Fits w64 (many * w)
-rows_fit s w count many e room b = rw e (omega arith)
-
 pub row_room : (s : List ℕ) (w count many : ℕ) → many ≡ count → count * w + w ≤ length s → many * w + w ≤ length s
 row_room s w count many e room = rw e room
 
@@ -123,9 +74,6 @@ module _ (s key v : List ℕ) (w count at : ℕ) (room : count * w + w ≤ lengt
 
   pub vector_room : (t u : List ℕ) → length t ≡ length s → length u ≡ length t → at + 7 + length v ≤ length u
   vector_room t u e f = omega (arith, place_low)
-
-  pub vector_fits : length s * 4 < 9223372036854775808 → Fits w64 (at + 7)
-  vector_fits b = omega (arith, place_low)
 
   pub insertion : (many : ℕ) (t u x : List ℕ) → many ≡ count → t ≡ take (at + w) s ++ slice at (many * w) s ++ drop (many * w + w) s → u ≡ paste t at key (length key) → x ≡ paste u (at + 7) v (length v) → x ≡ flat (inserted key v (pieces w count s)) ++ drop (count * w + w) s
   insertion many t u x m e₀ f g =

@@ -15,17 +15,7 @@ pub fn lower(key: &[u32], other: &[u32]) -> bool
     requires { length key.now ≡ length other.now }
     ensures { result ≡ lower_key key.now other.now }
 {
-    let mut i = 0;
-    while i < key.len() {
-        if key[i] < other[i] {
-            return true;
-        }
-        if other[i] < key[i] {
-            return false;
-        }
-        i += 1;
-    }
-    false
+    key < other
 }
 
 // The place of the first row that the key is lower than.
@@ -33,17 +23,11 @@ fn find_place(rows: &[u32], width: usize, count: RowCount, key: &[u32]) -> usize
     requires { (count.0 * width ≤ length rows.now) × (key_words ≤ width) × (length key.now ≡ key_words) }
     ensures { result ≡ length (flat (passed key.now (pieces width count.0 rows.now))) }
 {
-    let mut at = 0;
-    let mut more = count.0;
-    while 0 < more {
-        let end = at + KEY;
-        if lower(key, &rows[at..end]) {
-            return at;
-        }
-        at += width;
-        more -= 1;
-    }
-    at
+    let count = words_tags::wide(count.0);
+    let place = rows[..count * width]
+        .chunks_exact(width)
+        .position(|row| lower(key, &row[..KEY]));
+    place.unwrap_or(count) * width
 }
 
 // Puts a row, its key and its vector, at its ordered place; the rows behind it move up.

@@ -1,15 +1,7 @@
-use Rattle.table_drop.proofs.Testing.{concerns_register, concerns_clear, concerns_other, concerns_low}
-use native.Mathlib.Omega.{arith}
+use Rattle.std.proofs.Common.{arith}
+use Rattle.std.proofs.lemmas.Bool.Decides.{nat_tests}
 use Rattle.table_drop.proofs.concerns.Goals as goal
+use Rattle.table_drop.proofs.concerns.Goals.{then-in_register, else-in_register}
 
-pub returns-then-a-eq-MULTI_VALUE_REGISTER : goal.returns-then-a-eq-MULTI_VALUE_REGISTER
-returns-then-a-eq-MULTI_VALUE_REGISTER c = search concerns_register
-
-pub returns-then-a-eq-CLEARS : goal.returns-then-a-eq-CLEARS
-returns-then-a-eq-CLEARS c = search concerns_clear
-
-pub returns-then-high-ne-NO_HIGH : goal.returns-then-high-ne-NO_HIGH
-returns-then-high-ne-NO_HIGH c = search (concerns_other, arith)
-
-pub returns : goal.returns
-returns c = search (concerns_low, arith)
+pub returns-then-clears : goal.returns-then-clears
+returns-then-clears c = elim c.if-in_register.branch [ then-in_register w ↦ grind (arith, nat_tests) | else-in_register w ↦ grind (arith, nat_tests) ]

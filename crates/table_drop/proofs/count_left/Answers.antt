@@ -1,20 +1,17 @@
-use Rattle.table_drop.proofs.Dropping.{counting_start, counting_skip, counting_keep, counting_done, row_room, row_wide}
+use Rattle.std.proofs.Common.{◌∙◌, ℕ, List, sym, ap, length, not, arith, rules}
+use borrow.Author.Tests.{tests}
+use Rattle.std.proofs.lemmas.Iterator.Consumers.{YieldsList-from_filter, count_from_yields_List}
+use Rattle.meaning.proofs.Chains.{those_by_filter}
+use Rattle.words_layout.specs.Words.{pieces}
+use Rattle.words_layout.proofs.Chunks.{YieldsList-from_pieces}
+use Rattle.table_drop.specs.Arriving.{row_goes, left_by}
 use Rattle.table_drop.proofs.count_left.Goals as goal
 
-pub loop-more-init : goal.loop-more-init
-loop-more-init c = search counting_start
-
-pub slice_bounds-row_goes-end : goal.slice_bounds-row_goes-end
-slice_bounds-row_goes-end c = search row_room
-
-pub row_goes-requires : goal.row_goes-requires
-row_goes-requires c = search (row_wide, row_room)
-
-pub loop-more-preserved-then-row_goes : goal.loop-more-preserved-then-row_goes
-loop-more-preserved-then-row_goes c = search counting_skip
-
-pub loop-more-preserved : goal.loop-more-preserved
-loop-more-preserved c = search counting_keep
-
 pub returns : goal.returns
-returns c = search counting_done
+unfolding left_by
+returns c =
+    let stays = λ (row : List ℕ). not (row_goes c.args.a c.args.v.now row) in
+    let rows = pieces c.args.width c.args.count.0 c.args.rows.now in
+    count_from_yields_List c.filter.result _ c.count-left.ensures.ran
+    (YieldsList-from_filter _ stays (YieldsList-from_pieces c.args.width c.args.count.0 c.args.rows.now (cc) (cc) (omega arith) c.requires.0) c.filter.ensures.closure (λ x b q k. search (rules, tests)))
+    ∙ ap length (sym (those_by_filter stays rows))

@@ -1,27 +1,16 @@
-use Rattle.table_drop.proofs.Dropping.{dropping_start, dropping_skip, dropping_keep, dropping_count, dropping_done, done_room, row_room, row_wide}
-use borrow.Author.Rules.{rules}
+use Rattle.std.proofs.Common.{◌*◌, ap, arith}
+use Rattle.table_drop.proofs.Dropping.{row_kept, row_gone, rows_dropped}
 use Rattle.table_drop.proofs.drop_rows.Goals as goal
+use Rattle.table_drop.proofs.drop_rows.Goals.{then-not-row_goes, else-not-row_goes}
 
-pub loop-more-init : goal.loop-more-init
-loop-more-init c = search dropping_start
-
-pub slice_bounds-row_goes-end : goal.slice_bounds-row_goes-end
-slice_bounds-row_goes-end c = search row_room
-
-pub row_goes-requires : goal.row_goes-requires
-row_goes-requires c = search (row_wide, row_room)
-
-pub loop-more-preserved-then-row_goes : goal.loop-more-preserved-then-row_goes
-loop-more-preserved-then-row_goes c = search dropping_skip
-
-pub copy_down-requires : goal.copy_down-requires
-copy_down-requires c = (search rules, search row_room)
-
-pub loop-more-preserved : goal.loop-more-preserved
-loop-more-preserved c = search dropping_keep
-
-pub clear-requires : goal.clear-requires
-clear-requires c = (search rules, search done_room)
+pub loop-row-preserved : goal.loop-row-preserved
+loop-row-preserved c =
+    let from = c.wide-in-loop-row.result * c.args.width in
+    let at = ap (λ n. n * c.args.width) c.wide-in-loop-row.ensures.0 in
+    elim c.if-not-row_goes.branch [
+      | then-not-row_goes w ↦ row_kept _ _ _ _ _ _ _ _ c.loop-row.invariant c.loop-row-test.true from at w.if-not-row_goes.ensures _ _ _ (cc) w.to-is w.left-is
+      | else-not-row_goes w ↦ row_gone _ _ _ _ _ _ _ _ c.loop-row.invariant c.loop-row-test.true from at w.if-not-row_goes.ensures _ _ _ w.rows-is w.to-is w.left-is
+    ]
 
 pub returns : goal.returns
-returns c = (search dropping_count, search dropping_done)
+returns c = rows_dropped _ _ _ _ _ _ _ _ _ c.loop-row.invariant (omega arith) (ap (λ n. n * c.args.width) c.wide.ensures.0) _ c.clear.ensures

@@ -1,12 +1,13 @@
-use Rattle.table_drop.proofs.Testing.{same_other_object, same_other_high, same_low}
-use native.Mathlib.Omega.{arith}
+use Rattle.std.proofs.Common.{arith}
+use Rattle.std.proofs.lemmas.Bool.Decides.{nat_tests}
+use Rattle.meaning.specs.Arrival.{same_value}
+use Rattle.meaning.specs.Meaning.{on}
 use Rattle.table_drop.proofs.same_value.Goals as goal
 
-pub returns-then-row-a : goal.returns-then-row-a
-returns-then-row-a c = search same_other_object
+pub returns-then-row-eq-NO_HIGH : goal.returns-then-row-eq-NO_HIGH
+unfolding same_value on
+returns-then-row-eq-NO_HIGH c = grind (arith, nat_tests)
 
-pub returns-then-row-ne-NO_HIGH : goal.returns-then-row-ne-NO_HIGH
-returns-then-row-ne-NO_HIGH c = search (same_other_high, arith)
-
-pub returns : goal.returns
-returns c = search (same_low, arith)
+pub returns-else-row-eq-NO_HIGH : goal.returns-else-row-eq-NO_HIGH
+unfolding same_value on
+returns-else-row-eq-NO_HIGH c = grind (arith, nat_tests)

@@ -1,24 +1,17 @@
-use Rattle.table_insert.proofs.Placing.{finding_start, finding_done, finding_key, finding_past, finding_found, next_fits, key_long}
-use native.Mathlib.Omega.{arith}
+use Rattle.std.proofs.Common.{◌≡◌, true, false, take, arith, rules}
+use borrow.Author.Tests.{tests}
+use Rattle.std.proofs.lemmas.Iterator.{IsFirst-from_position}
+use Rattle.meaning.specs.Rows.{lower_key}
+use Rattle.words_layout.proofs.Chunks.{YieldsList-from_pieces}
+use Rattle.table_insert.proofs.Placing.{place_found}
 use Rattle.table_insert.proofs.find_place.Goals as goal
 
-pub loop-more-init : goal.loop-more-init
-loop-more-init c = search finding_start
-
-pub slice_bounds-lower-end : goal.slice_bounds-lower-end
-slice_bounds-lower-end c = search finding_key
-
-pub lower-requires : goal.lower-requires
-lower-requires c = search (key_long, finding_key)
-
-pub returns-then-lower : goal.returns-then-lower
-returns-then-lower c = search finding_found
-
-pub overflow_add-at : goal.overflow_add-at
-overflow_add-at c = search (next_fits, arith)
-
-pub loop-more-preserved : goal.loop-more-preserved
-loop-more-preserved c = search finding_past
-
 pub returns : goal.returns
-returns c = search finding_done
+returns c =
+    let key = c.args.key.now in
+    let found =
+    place_found c.args.rows.now key c.args.width c.args.count.0 c.wide-count.result c.position-place.result c.requires.0 c.wide-count.ensures.0
+    (IsFirst-from_position c.position-place.new.self _ _ (λ row. lower_key key (take 7 row) ≡ true) (λ row. lower_key key (take 7 row) ≡ false) c.position-place.ensures.ran
+    (YieldsList-from_pieces c.args.width c.args.count.0 c.args.rows.now (cc) (cc) (omega arith) (c.requires.0))
+    (λ x q k. search (rules, tests)) (λ x q k. search (rules, tests))) in
+    cc
