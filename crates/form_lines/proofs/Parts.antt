@@ -5,7 +5,6 @@ use mathlib.Core.List.{List, [], ◌∷◌, map, Memᴰ}
 use Prim.Native.Nat.{ℕ, zero, suc, ◌+◌, ◌-◌, ◌*◌, ◌≤◌, ◌<◌}
 use native.Mathlib.Nat.{suc-mul, mul-le-mul_right}
 use native.Mathlib.Omega.{arith}
-use borrow.Author.Tests.{ne_eqb}
 use mir.Val.{Fits}
 use mir.Syntax.{w64}
 use lib.Dec.{eqb}
@@ -22,7 +21,8 @@ use Rattle.words_layout.proofs.Whole.{each_spelt}
 use Rattle.table_rules.specs.Checked.{Checked}
 use Rattle.line_read.specs.Types.{opening, clock, last_vector, total, row, closing}
 use Rattle.line_put.specs.Writing.{line_written}
-use Rattle.line_put.specs.declared.Written.{Written}
+use Rattle.line_put.specs.declared.TooShort.{TooShort}
+use Rattle.std.proofs.Common.{Result}
 use Rattle.line_print.specs.Printed.{printed}
 use Rattle.form_lines.specs.FormLines.{opening_line, clock_line, last_line, total_line, row_line, row_line_at, closing_line}
 use Rattle.meaning.specs.Table.{greatest_size}
@@ -50,23 +50,23 @@ drop_of_take (suc k) n (x ∷ l) = let e : suc k + n ≡ suc (k + n) = omega ari
 
 -- the lines of a part that stands as it is
 module _ (s out : List ℕ) (n : ℕ) where
-  pub opening_written : n ≡ objects_in s → (r : Written) (x : List ℕ)
+  pub opening_written : n ≡ objects_in s → (r : Result ℕ TooShort) (x : List ℕ)
       → (r, x) ≡ printed out opening (get_or s 1 0 ∷ get_or s 2 0 ∷ get_or s 3 0 ∷ length (take (7 + n - 7) (drop 7 s)) ∷ []) (take (7 + n - 7) (drop 7 s))
       → (r, x) ≡ line_written out (opening_line (table_of s).header)
   unfolding printed opening_line table_of
   opening_written en r x e = let d : 7 + n - 7 ≡ objects_in s = omega arith in e ∙ rw d refl
 
-  pub clock_written : n ≡ size_in s → (r : Written) (x : List ℕ)
+  pub clock_written : n ≡ size_in s → (r : Result ℕ TooShort) (x : List ℕ)
       → (r, x) ≡ printed out clock [] (take (clock_at + n - clock_at) (drop clock_at s))
       → (r, x) ≡ line_written out (clock_line (table_of s).clock)
   unfolding printed clock_line table_of
   clock_written en r x e = let d : clock_at + n - clock_at ≡ size_in s = omega arith in e ∙ rw d refl
 
-pub closing_written : (s out : List ℕ) (r : Written) (x : List ℕ) → (r, x) ≡ printed out closing (get_or s 5 0 ∷ []) [] → (r, x) ≡ line_written out (closing_line (length (table_of s).rows))
+pub closing_written : (s out : List ℕ) (r : Result ℕ TooShort) (x : List ℕ) → (r, x) ≡ printed out closing (get_or s 5 0 ∷ []) [] → (r, x) ≡ line_written out (closing_line (length (table_of s).rows))
 unfolding printed closing_line table_of
 closing_written s out r x e = e ∙ rw (length-map (rows_in s) row_of, length_pieces (row_width (size_in s)) (count_in s) (drop (rows_at (size_in s)) s)) refl
 
-pub total_written : (s out : List ℕ) (o h l : ℕ) → h ∷ l ∷ [] ≡ total_words ((by_rows (table_of s)).total_at o) → (r : Written) (x : List ℕ)
+pub total_written : (s out : List ℕ) (o h l : ℕ) → h ∷ l ∷ [] ≡ total_words ((by_rows (table_of s)).total_at o) → (r : Result ℕ TooShort) (x : List ℕ)
     → (r, x) ≡ printed out total (o ∷ h ∷ l ∷ []) []
     → (r, x) ≡ line_written out (total_line o (get_or (table_of s).totals o (pos 0)))
 unfolding printed total_line by_rows
@@ -101,7 +101,7 @@ module _ (s : List ℕ) (K : Checked s) (k n i : ℕ) (h : k < size_in s) (en : 
       let d : clock_at + n + i * n + n - (clock_at + n + i * n) ≡ n = omega arith in
       rw (d, ei, en) (sym (piece_at (size_in s) (size_in s) k (drop (clock_at + size_in s) s) h ∙ ap (take (size_in s)) (drop-drop (k * size_in s) (clock_at + size_in s) s)))
 
-  pub last_written : (out : List ℕ) (r : Written) (x : List ℕ)
+  pub last_written : (out : List ℕ) (r : Result ℕ TooShort) (x : List ℕ)
       → (r, x) ≡ printed out last_vector (k ∷ []) (take (clock_at + n + i * n + n - (clock_at + n + i * n)) (drop (clock_at + n + i * n) s))
       → (r, x) ≡ line_written out (last_line k (get_or (table_of s).last k []))
   unfolding printed last_line
@@ -163,7 +163,7 @@ module _ (s : List ℕ) (K : Checked s) (k : ℕ) (h : k < count_in s) where
   vector_is : padded (size_in s) (row_of words).operation.vector ≡ take (size_in s) (drop (at + 7) s)
   vector_is = ap (drop 7) spelt ∙ drop_of_take 7 (size_in s) (drop at s) ∙ ap (take (size_in s)) (drop-drop 7 at s)
 
-  pub row_written : (from n f : ℕ) → from ≡ at → n ≡ size_in s → f ≡ cond (eqb (get_or s (from + 4) 0) 0) 1 0 → (out : List ℕ) (r : Written) (x : List ℕ)
+  pub row_written : (from n f : ℕ) → from ≡ at → n ≡ size_in s → f ≡ cond (eqb (get_or s (from + 4) 0) 0) 1 0 → (out : List ℕ) (r : Result ℕ TooShort) (x : List ℕ)
       → (r, x) ≡ printed out row (get_or s from 0 ∷ get_or s (from + 3) 0 ∷ f ∷ get_or s (from + 5) 0 ∷ get_or s (from + 2) 0 ∷ []) (take (from + 7 + n - (from + 7)) (drop (from + 7) s))
       → (r, x) ≡ line_written out (row_line_at (table_of s) k)
   unfolding printed row_line
@@ -171,9 +171,3 @@ module _ (s : List ℕ) (K : Checked s) (k : ℕ) (h : k < count_in s) where
       let d : from + 7 + n - (from + 7) ≡ n = omega arith in
       let z : get_or s at 0 ≡ get_or words 0 0 = sym (word_at 0 (omega arith) ∙ let q : at + 0 ≡ at = omega arith in rw q refl) in
       e ∙ rw (d, en, es, ef, sym vector_is, sym low_is_lem, z, sym (word_at 3 (omega arith)), sym (word_at 4 (omega arith)), sym (word_at 5 (omega arith))) (sym (ap (line_written out) line_is))
-
-pub settled_byte : (unsettled : ℕ) → unsettled ≡ 0 → ◌≡◌ {A = ℕ} 1 (cond (eqb unsettled 0) 1 0)
-settled_byte unsettled e = rw e refl
-
-pub unsettled_byte : (unsettled : ℕ) → (unsettled ≡ 0 → ⊥) → ◌≡◌ {A = ℕ} 0 (cond (eqb unsettled 0) 1 0)
-unsettled_byte unsettled n = rw (ne_eqb unsettled 0 n) refl

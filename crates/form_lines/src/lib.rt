@@ -7,7 +7,7 @@ ghost use Rattle.table_rules.specs.Checked.{Checked};
 ghost use Rattle.line_put.specs.Writing.{line_written};
 ghost use Rattle.form_lines.specs.FormLines.{clock_line, closing_line, last_line, opening_line, row_line_at, total_line};
 
-use line_put::Written;
+use line_put::TooShort;
 use words_layout::{
     CAPACITY_AT, CLOCK_AT, CODE_AT, COUNT_AT, KEY, KINDS_AT, LOW_AT, OBJECTS_AT, OWN_AT, SIZE_AT,
     TAG_AT, UNSETTLED_AT, VECTOR_AT,
@@ -15,7 +15,7 @@ use words_layout::{
 use words_tags::{RowCount, Station};
 
 // `10`, from the head and the kinds.
-pub fn write_opening(space: &[u32], out: &mut [u8]) -> Written
+pub fn write_opening(space: &[u32], out: &mut [u8]) -> Result<usize, TooShort>
     requires { Checked space.now }
     ensures { (result, out.new) ≡ line_written out.old (opening_line (table_of space.now).header) }
 {
@@ -27,7 +27,7 @@ pub fn write_opening(space: &[u32], out: &mut [u8]) -> Written
 }
 
 // `50`, from D.
-pub fn write_clock(space: &[u32], out: &mut [u8]) -> Written
+pub fn write_clock(space: &[u32], out: &mut [u8]) -> Result<usize, TooShort>
     requires { Checked space.now }
     ensures { (result, out.new) ≡ line_written out.old (clock_line (table_of space.now).clock) }
 {
@@ -36,7 +36,7 @@ pub fn write_clock(space: &[u32], out: &mut [u8]) -> Written
 }
 
 // `51`, from a station's L.
-pub fn write_last(space: &[u32], station: Station, out: &mut [u8]) -> Written
+pub fn write_last(space: &[u32], station: Station, out: &mut [u8]) -> Result<usize, TooShort>
     requires { Checked space.now × (station.0 < size_in space.now) }
     ensures { (result, out.new) ≡ line_written out.old (last_line station.0 (get_or (table_of space.now).last station.0 [])) }
 {
@@ -47,7 +47,7 @@ pub fn write_last(space: &[u32], station: Station, out: &mut [u8]) -> Written
 }
 
 // `52`, from the total of an object.
-pub fn write_total(space: &[u32], object: u32, out: &mut [u8]) -> Written
+pub fn write_total(space: &[u32], object: u32, out: &mut [u8]) -> Result<usize, TooShort>
     requires { Checked space.now × (object < objects_in space.now) }
     ensures { (result, out.new) ≡ line_written out.old (total_line object (get_or (table_of space.now).totals object (pos 0))) }
 {
@@ -56,13 +56,15 @@ pub fn write_total(space: &[u32], object: u32, out: &mut [u8]) -> Written
 }
 
 // The byte that tells a settled row, from the word that is 0 in one.
+#[tactic(auto, using(std::proofs::lemmas::Bool::Decides::nat_tests))]
 fn settled_byte(unsettled: u32) -> u32
     ensures { result ≡ cond (eqb unsettled 0) 1 0 }
 {
     if unsettled == 0 {
-        return line_read::SETTLED_BYTE;
+        line_read::SETTLED_BYTE
+    } else {
+        line_read::UNSETTLED_BYTE
     }
-    line_read::UNSETTLED_BYTE
 }
 
 // Where the row behind so many others starts.
@@ -75,7 +77,7 @@ fn row_at(space: &[u32], ahead: RowCount) -> usize
 }
 
 // `53`, from the row behind so many others: its words in another order, and its vector where it stands.
-pub fn write_row(space: &[u32], ahead: RowCount, out: &mut [u8]) -> Written
+pub fn write_row(space: &[u32], ahead: RowCount, out: &mut [u8]) -> Result<usize, TooShort>
     requires { Checked space.now × (ahead.0 < count_in space.now) }
     ensures { (result, out.new) ≡ line_written out.old (row_line_at (table_of space.now) ahead.0) }
 {
@@ -91,7 +93,7 @@ pub fn write_row(space: &[u32], ahead: RowCount, out: &mut [u8]) -> Written
 }
 
 // `5f`, from the count of rows.
-pub fn write_closing(space: &[u32], out: &mut [u8]) -> Written
+pub fn write_closing(space: &[u32], out: &mut [u8]) -> Result<usize, TooShort>
     requires { Checked space.now }
     ensures { (result, out.new) ≡ line_written out.old (closing_line (length (table_of space.now).rows)) }
 {

@@ -4,7 +4,7 @@ use mathlib.Core.Bool.{Bool, true, false}
 use mathlib.Core.List.{List, [], ◌∷◌, ◌++◌, map}
 use Prim.Native.Nat.{ℕ, zero, suc, ◌+◌, ◌-◌, ◌≤◌, ◌<◌}
 use native.Mathlib.Omega.{arith}
-use borrow.Author.Tests.{eq-eqb, ne_eqb, lt-ltb, le-ltb}
+use borrow.Author.Tests.{eq-eqb, ne_eqb}
 use mir.Val.{Fits}
 use mir.Syntax.{w32}
 use lib.IntN.{pos}
@@ -17,38 +17,24 @@ use Rattle.words_layout.specs.Layout.{table_of, total_of_words, row_of, rows_at,
 use Rattle.words_layout.proofs.Pieces.{length_pieces}
 use Rattle.table_rules.specs.Checked.{Checked}
 use Rattle.line_put.specs.Writing.{line_written}
-use Rattle.line_put.specs.declared.Written.{Written}
-use Rattle.line_put.specs.declared.Written.TheVariants as written
 use Rattle.form_lines.specs.FormLines.{opening_line, clock_line, last_line, total_line, row_line, row_line_at, closing_line}
+use Rattle.line_put.specs.declared.TooShort.{TooShort}
+use Rattle.std.proofs.Common.{Option, Some, None, Result, Ok, Err}
 use Rattle.form_write.specs.Forms.{formed_of, last_lines, line_at, line_into, row_lines, saved_form, total_lines}
 use Rattle.form_write.specs.Seeking.{counter_at, other_at}
-use Rattle.form_write.specs.declared.Formed.{Formed}
-use Rattle.form_write.specs.declared.Formed.TheVariants as formed
-use Rattle.form_write.specs.declared.Sought.{Sought}
-use Rattle.form_write.specs.declared.Sought.TheVariants as sought
+use Rattle.std.specs.Result.{IsOkAnd, MatchResult}
 use Rattle.form_write.proofs.Places.{front_line, behind_lines, counter_line, counter_below, line_sought, last_there, last_behind, other_below}
 
 -- what was written, told
-pub told_line : (w : Written) (n : ℕ) → w ≡ written.Characters n → formed.Line n ≡ formed_of w
+pub told : (w : Result ℕ TooShort) (t : Result (Option ℕ) TooShort) → MatchResult w (λ n. IsOkAnd t (λ o. o ≡ Some n)) (λ e. t ≡ Err e) → t ≡ formed_of w
 unfolding formed_of
-told_line w n e = sym (ap formed_of e)
+told (Ok n) (Ok o) h = ap Ok h
+told (Ok n) (Err e) h = absurd h
+told (Err e) t h = h
 
-pub told_short : (w : Written) → w ≡ written.TooShort → formed.TooShort ≡ formed_of w
-unfolding formed_of
-told_short w e = sym (ap formed_of e)
-
-into_told : (out bytes : List ℕ) (w : Written) (x : List ℕ) (t : Formed) → (w, x) ≡ line_written out bytes → t ≡ formed_of w → (t, x) ≡ line_into out bytes
+into_told : (out bytes : List ℕ) (w : Result ℕ TooShort) (x : List ℕ) (t : Result (Option ℕ) TooShort) → (w, x) ≡ line_written out bytes → t ≡ formed_of w → (t, x) ≡ line_into out bytes
 unfolding line_into
-into_told out bytes w x t e f = ap (λ (u : Formed). (u, x)) f ∙ ap (λ (p : Written × List ℕ). (formed_of p.0, p.1)) e
-
--- the own station is passed over
-pub other_before : (own ahead : ℕ) → ahead < own → ahead ≡ other_at own ahead
-unfolding other_at
-other_before own ahead h = rw (lt-ltb ahead own h) refl
-
-pub other_after : (own ahead : ℕ) → own ≤ ahead → ahead + 1 ≡ other_at own ahead
-unfolding other_at
-other_after own ahead h = rw (le-ltb ahead own h) (omega arith)
+into_told out bytes w x t e f = ap (λ (u : Result (Option ℕ) TooShort). (u, x)) f ∙ ap (λ (p : Result ℕ TooShort × List ℕ). (formed_of p.0, p.1)) e
 
 -- A counter is sought: it is the counter of the kinds that are left, behind those that are left to pass.
 pub record Seeking (kinds : List ℕ) (ahead object left : ℕ) : Type 0 where
@@ -59,7 +45,7 @@ pub seeking_start : (kinds : List ℕ) (ahead : ℕ) → Seeking kinds ahead 0 a
 seeking_start kinds ahead = record { within = omega arith; same = refl }
 
 module _ (kinds : List ℕ) (ahead object left : ℕ) (S : Seeking kinds ahead object left) where
-  pub seeking_done : length kinds ≤ object → sought.Behind left ≡ counter_at kinds 0 ahead
+  pub seeking_done : length kinds ≤ object → Err left ≡ counter_at kinds 0 ahead
   unfolding counter_at
   seeking_done h = sym (ap (λ (l : List ℕ). counter_at l object left) (drop_of_length-le kinds {i = object} h)) ∙ S.same
 
@@ -70,7 +56,7 @@ module _ (kinds : List ℕ) (ahead object left : ℕ) (S : Seeking kinds ahead o
     opened : counter_at (get_or kinds object 0 ∷ drop (suc object) kinds) object left ≡ counter_at kinds 0 ahead
     opened = sym (ap (λ (l : List ℕ). counter_at l object left) next_kinds) ∙ S.same
 
-    pub seeking_found : b ≡ true → left ≡ 0 → sought.At object ≡ counter_at kinds 0 ahead
+    pub seeking_found : b ≡ true → left ≡ 0 → Ok object ≡ counter_at kinds 0 ahead
     unfolding counter_at
     seeking_found t z = sym (rw (sym e ∙ t, eq-eqb left 0 z) refl) ∙ opened
 
@@ -95,7 +81,7 @@ module _ (s : List ℕ) (place rows : ℕ) (er : rows ≡ count_in s) (out : Lis
   lines_many : length (map (row_line (table_of s).header.size) (table_of s).rows) ≡ rows
   lines_many = length-map (table_of s).rows (row_line (table_of s).header.size) ∙ many
 
-  pub row_told : place < rows → (w : Written) (x : List ℕ) → (w, x) ≡ line_written out (row_line_at (table_of s) place) → (t : Formed) → t ≡ formed_of w → (t, x) ≡ line_at (row_lines (table_of s)) place out
+  pub row_told : place < rows → (w : Result ℕ TooShort) (x : List ℕ) → (w, x) ≡ line_written out (row_line_at (table_of s) place) → (t : Result (Option ℕ) TooShort) → t ≡ formed_of w → (t, x) ≡ line_at (row_lines (table_of s)) place out
   unfolding row_lines row_line_at
   row_told h w x e t f = into_told out _ w x t e f ∙ sym (front_line (map (row_line (table_of s).header.size) (table_of s).rows) (closing_line (length (table_of s).rows) ∷ []) place out (rw lines_many h))
 
@@ -103,16 +89,16 @@ module _ (s : List ℕ) (place rows : ℕ) (er : rows ≡ count_in s) (out : Lis
   unfolding row_lines
   behind_rows h = behind_lines (map (row_line (table_of s).header.size) (table_of s).rows) (closing_line (length (table_of s).rows) ∷ []) place out (rw lines_many h) ∙ rw lines_many refl
 
-  pub closing_told : place ≡ rows → (w : Written) (x : List ℕ) → (w, x) ≡ line_written out (closing_line (length (table_of s).rows)) → (t : Formed) → t ≡ formed_of w → (t, x) ≡ line_at (row_lines (table_of s)) place out
+  pub closing_told : place ≡ rows → (w : Result ℕ TooShort) (x : List ℕ) → (w, x) ≡ line_written out (closing_line (length (table_of s).rows)) → (t : Result (Option ℕ) TooShort) → t ≡ formed_of w → (t, x) ≡ line_at (row_lines (table_of s)) place out
   unfolding line_at
   closing_told h w x e t f = let d : place - rows ≡ 0 = omega arith in into_told out _ w x t e f ∙ sym (behind_rows (omega arith) ∙ rw d refl)
 
-  pub end_told : rows ≤ place → (place ≡ rows → ⊥) → (formed.End, out) ≡ line_at (row_lines (table_of s)) place out
+  pub end_told : rows ≤ place → (place ≡ rows → ⊥) → (Ok None, out) ≡ line_at (row_lines (table_of s)) place out
   unfolding line_at
   end_told h n = let d : place - rows ≡ suc (place - rows - 1) = omega arith in sym (behind_rows h ∙ rw d refl)
 
 -- the lines of counters, and what is behind them
-module _ (s : List ℕ) (K : Checked s) (place n : ℕ) (en : n ≡ objects_in s) (r : Sought) (e : r ≡ counter_at (take (7 + n - 7) (drop 7 s)) 0 place) where
+module _ (s : List ℕ) (K : Checked s) (place n : ℕ) (en : n ≡ objects_in s) (r : Result ℕ ℕ) (e : r ≡ counter_at (take (7 + n - 7) (drop 7 s)) 0 place) where
   kinds_are : take (7 + n - 7) (drop 7 s) ≡ (table_of s).header.kinds
   unfolding table_of
   kinds_are = let d : 7 + n - 7 ≡ objects_in s = omega arith in rw d refl
@@ -128,10 +114,10 @@ module _ (s : List ℕ) (K : Checked s) (place n : ℕ) (en : n ≡ objects_in s
   found : r ≡ counter_at (table_of s).header.kinds 0 place
   found = e ∙ ap (λ (l : List ℕ). counter_at l 0 place) kinds_are
 
-  pub object_below : (object : ℕ) → r ≡ sought.At object → object < objects_in s
+  pub object_below : (object : ℕ) → r ≡ Ok object → object < objects_in s
   object_below object g = counter_below (table_of s).header.kinds place (objects_in s) object r kinds_many found g
 
-  pub object_fits : (object : ℕ) → r ≡ sought.At object → Fits w32 object
+  pub object_fits : (object : ℕ) → r ≡ Ok object → Fits w32 object
   object_fits object g = omega (arith, object_below object g, K.objects)
 
   module _ (out : List ℕ) where
@@ -141,20 +127,20 @@ module _ (s : List ℕ) (K : Checked s) (place n : ℕ) (en : n ≡ objects_in s
         counter_line (table_of s).header.kinds (table_of s).totals total_line (row_lines (table_of s)) out (table_of s).header.kinds (table_of s).totals 0 place refl refl (kinds_many ∙ sym totals_many)
         ∙ sym (ap (line_sought (table_of s).totals total_line (row_lines (table_of s)) out) found)
 
-    pub total_told : (object : ℕ) → r ≡ sought.At object → (w : Written) (x : List ℕ) → (w, x) ≡ line_written out (total_line object (get_or (table_of s).totals object (pos 0))) → (t : Formed) → t ≡ formed_of w
+    pub total_told : (object : ℕ) → r ≡ Ok object → (w : Result ℕ TooShort) (x : List ℕ) → (w, x) ≡ line_written out (total_line object (get_or (table_of s).totals object (pos 0))) → (t : Result (Option ℕ) TooShort) → t ≡ formed_of w
         → (t, x) ≡ line_at (total_lines (table_of s) ++ row_lines (table_of s)) place out
     total_told object g w x f t h = into_told out _ w x t f h ∙ sym (as_sought ∙ ap (line_sought (table_of s).totals total_line (row_lines (table_of s)) out) g)
 
-    pub totals_behind : (left : ℕ) → r ≡ sought.Behind left → (t : Formed) (x : List ℕ) → (t, x) ≡ line_at (row_lines (table_of s)) left out → (t, x) ≡ line_at (total_lines (table_of s) ++ row_lines (table_of s)) place out
+    pub totals_behind : (left : ℕ) → r ≡ Err left → (t : Result (Option ℕ) TooShort) (x : List ℕ) → (t, x) ≡ line_at (row_lines (table_of s)) left out → (t, x) ≡ line_at (total_lines (table_of s) ++ row_lines (table_of s)) place out
     totals_behind left g t x f = f ∙ sym (as_sought ∙ ap (line_sought (table_of s).totals total_line (row_lines (table_of s)) out) g)
 
 -- the first two lines
 module _ (s out : List ℕ) (k : ℕ) where
-  pub opening_told : k ≡ 0 → (w : Written) (x : List ℕ) → (w, x) ≡ line_written out (opening_line (table_of s).header) → (t : Formed) → t ≡ formed_of w → (t, x) ≡ line_at (saved_form (table_of s)) k out
+  pub opening_told : k ≡ 0 → (w : Result ℕ TooShort) (x : List ℕ) → (w, x) ≡ line_written out (opening_line (table_of s).header) → (t : Result (Option ℕ) TooShort) → t ≡ formed_of w → (t, x) ≡ line_at (saved_form (table_of s)) k out
   unfolding saved_form line_at
   opening_told z w x e t f = into_told out _ w x t e f ∙ rw z refl
 
-  pub clock_told : k ≡ 1 → (w : Written) (x : List ℕ) → (w, x) ≡ line_written out (clock_line (table_of s).clock) → (t : Formed) → t ≡ formed_of w → (t, x) ≡ line_at (saved_form (table_of s)) k out
+  pub clock_told : k ≡ 1 → (w : Result ℕ TooShort) (x : List ℕ) → (w, x) ≡ line_written out (clock_line (table_of s).clock) → (t : Result (Option ℕ) TooShort) → t ≡ formed_of w → (t, x) ≡ line_at (saved_form (table_of s)) k out
   unfolding saved_form line_at
   clock_told z w x e t f = into_told out _ w x t e f ∙ rw z refl
 
@@ -192,14 +178,14 @@ module _ (s : List ℕ) (K : Checked s) (out : List ℕ) (k : ℕ) (n0 : k ≡ 0
   unfolding saved_form
   in_form = third_line (opening_line (table_of s).header) (clock_line (table_of s).clock) (last_lines (table_of s) ++ (total_lines (table_of s) ++ row_lines (table_of s))) k out two
 
-  pub last_told : k < 1 + size → (station : ℕ) → station ≡ other_at (own_in s) (k - 2) → (w : Written) (x : List ℕ) → (w, x) ≡ line_written out (last_line station (get_or (table_of s).last station [])) → (t : Formed) → t ≡ formed_of w
+  pub last_told : k < 1 + size → (station : ℕ) → station ≡ other_at (own_in s) (k - 2) → (w : Result ℕ TooShort) (x : List ℕ) → (w, x) ≡ line_written out (last_line station (get_or (table_of s).last station [])) → (t : Result (Option ℕ) TooShort) → t ≡ formed_of w
       → (t, x) ≡ line_at (saved_form (table_of s)) k out
   unfolding last_lines
   last_told h station e w x f t g =
       into_told out _ w x t f g ∙ rw (e, sym own_is)
       (sym (in_form ∙ last_there last_line (total_lines (table_of s) ++ row_lines (table_of s)) out (table_of s).header.own (k - 2) (table_of s).last own_below (rw lasts_many (omega (arith, two)))))
 
-  pub lasts_behind : 1 + size ≤ k → (t : Formed) (x : List ℕ) → (t, x) ≡ line_at (total_lines (table_of s) ++ row_lines (table_of s)) (k - (1 + size)) out → (t, x) ≡ line_at (saved_form (table_of s)) k out
+  pub lasts_behind : 1 + size ≤ k → (t : Result (Option ℕ) TooShort) (x : List ℕ) → (t, x) ≡ line_at (total_lines (table_of s) ++ row_lines (table_of s)) (k - (1 + size)) out → (t, x) ≡ line_at (saved_form (table_of s)) k out
   unfolding last_lines
   lasts_behind h t x e =
       let d : suc (k - 2) - size ≡ k - (1 + size) = omega (arith, two) in

@@ -11,11 +11,10 @@ use lib.ListN.{length, get_or, drop}
 use lib.Seq.{get_or-drop, drop-drop}
 use Rattle.meaning.specs.Operations.{is_counter}
 use Rattle.meaning.proofs.Tests.{cases}
+use Rattle.line_put.specs.declared.TooShort.{TooShort}
+use Rattle.std.proofs.Common.{Option, Result, Ok, Err}
 use Rattle.form_write.specs.Forms.{line_at, line_into, lines_of}
 use Rattle.form_write.specs.Seeking.{counter_at, other_at}
-use Rattle.form_write.specs.declared.Formed.{Formed}
-use Rattle.form_write.specs.declared.Sought.{Sought}
-use Rattle.form_write.specs.declared.Sought.TheVariants as sought
 
 -- a line of the first part, and of what is behind it
 pub front_line : (xs ys : List (List ℕ)) (k : ℕ) (out : List ℕ) → k < length xs → line_at (xs ++ ys) k out ≡ line_into out (get_or xs k [])
@@ -31,9 +30,9 @@ behind_lines (x ∷ xs) ys zero out h = absurd (omega arith)
 behind_lines (x ∷ xs) ys (suc k) out h = let e : suc k - suc (length xs) ≡ k - length xs = omega arith in rw e (behind_lines xs ys k out (omega arith))
 
 -- the line of the counter that is found, or what stands behind the counters
-abbrev pub line_sought : List ℤ → (ℕ → ℤ → List ℕ) → List (List ℕ) → List ℕ → Sought → Formed × List ℕ
-line_sought totals line ys out (sought.At object) = line_into out (line object (get_or totals object (pos 0)))
-line_sought totals line ys out (sought.Behind left) = line_at ys left out
+abbrev pub line_sought : List ℤ → (ℕ → ℤ → List ℕ) → List (List ℕ) → List ℕ → Result ℕ ℕ → Result (Option ℕ) TooShort × List ℕ
+line_sought totals line ys out (Ok object) = line_into out (line object (get_or totals object (pos 0)))
+line_sought totals line ys out (Err left) = line_at ys left out
 
 -- the first counter's line is at the place of the first counter, and so on
 module _ (kinds₀ : List ℕ) (totals₀ : List ℤ) (line : ℕ → ℤ → List ℕ) (ys : List (List ℕ)) (out : List ℕ) where
@@ -59,15 +58,15 @@ module _ (kinds₀ : List ℕ) (totals₀ : List ℤ) (line : ℕ → ℤ → Li
       by : (b : Bool) (j : ℕ) (z : ℤ) → get_or totals₀ place (pos 0) ≡ z
           → ((i : ℕ) → line_at (lines_of counts line (suc place) totals ++ ys) i out ≡ line_sought totals₀ line ys out (counter_at kinds (suc place) i))
           → line_at (cond b (line place z ∷ lines_of counts line (suc place) totals) (lines_of counts line (suc place) totals) ++ ys) j out
-          ≡ line_sought totals₀ line ys out (cond b (cond (eqb j 0) (sought.At place) (counter_at kinds (suc place) (j - 1))) (counter_at kinds (suc place) j))
+          ≡ line_sought totals₀ line ys out (cond b (cond (eqb j 0) (Ok place) (counter_at kinds (suc place) (j - 1))) (counter_at kinds (suc place) j))
       by true zero z t rest = rw t refl
       by true (suc j) z t rest = let d : suc j - 1 ≡ j = omega arith in rw (ne_eqb (suc j) 0 (λ n. absurd (omega arith)), d) (rest j)
       by false j z t rest = rest j
 
 -- a counter that is found is an object of the table
-abbrev Below : ℕ → Sought → Type 0
-Below limit (sought.At object) = object < limit
-Below limit (sought.Behind left) = Unit {0}
+abbrev Below : ℕ → Result ℕ ℕ → Type 0
+Below limit (Ok object) = object < limit
+Below limit (Err left) = Unit {0}
 
 below : (kinds : List ℕ) (place ahead limit : ℕ) → place + length kinds ≡ limit → Below limit (counter_at kinds place ahead)
 unfolding counter_at
@@ -75,12 +74,12 @@ below [] place ahead limit e = tt
 below (kind ∷ kinds) place ahead limit e = by (is_counter kind) (eqb ahead 0) (below kinds (suc place) (ahead - 1) limit (omega arith)) (below kinds (suc place) ahead limit (omega arith))
   where
     by : (b c : Bool) → Below limit (counter_at kinds (suc place) (ahead - 1)) → Below limit (counter_at kinds (suc place) ahead)
-        → Below limit (cond b (cond c (sought.At place) (counter_at kinds (suc place) (ahead - 1))) (counter_at kinds (suc place) ahead))
+        → Below limit (cond b (cond c (Ok place) (counter_at kinds (suc place) (ahead - 1))) (counter_at kinds (suc place) ahead))
     by true true f g = omega arith
     by true false f g = f
     by false c f g = g
 
-pub counter_below : (kinds : List ℕ) (ahead limit object : ℕ) (r : Sought) → length kinds ≡ limit → r ≡ counter_at kinds 0 ahead → r ≡ sought.At object → object < limit
+pub counter_below : (kinds : List ℕ) (ahead limit object : ℕ) (r : Result ℕ ℕ) → length kinds ≡ limit → r ≡ counter_at kinds 0 ahead → r ≡ Ok object → object < limit
 counter_below kinds ahead limit object r e f g = subst (Below limit) (sym f ∙ g) (below kinds 0 ahead limit (omega arith))
 
 -- the lines of the other stations

@@ -23,9 +23,9 @@ use Rattle.words_layout.specs.Words.{complement, word_limit}
 use Rattle.words_layout.proofs.Whole.{length_padded}
 use Rattle.line_shape.specs.Reading.{padded}
 use Rattle.line_shape.specs.Shapes.{Fitting}
-use Rattle.line_read.specs.Named.{opening_read}
+use Rattle.line_read.specs.Named.{is_opening, opening_read}
 use Rattle.line_read.proofs.Taken.{opening_reads_back, opening_kinds_read_back}
-use Rattle.line_read.specs.SavedNamed.{clock_read, last_read, total_read, row_read, closing_read}
+use Rattle.line_read.specs.SavedNamed.{clock_read, last_read, total_read, row_read, closing_read, is_clock, is_closing, is_last, is_row, is_total}
 use Rattle.line_read.proofs.SavedNamed.{clock_reads_back, last_reads_back, total_reads_back, row_reads_back, closing_reads_back}
 use Rattle.form_lines.specs.FormLines.{opening_line, clock_line, last_line, total_line, row_line, closing_line}
 use Rattle.meaning.proofs.TableFacts.{row_small}
@@ -113,7 +113,7 @@ module _ (t : Table) (h : is_table t ≡ true) where
   unfolding Fitting
   opening_fits = (omega arith, (omega (arith, H.size_range.1), (omega (arith, H.own_in_lem, H.size_range.1), (omega (arith, H.capacity_range.1), (omega (arith, H.objects_range.1), fit_each 1 t.header.kinds kinds_below)))))
 
-  pub opening_back : opening_read (opening_line t.header) ≡ record { ok = true; stations = size; own = t.header.own; capacity = t.header.capacity; count = length t.header.kinds }
+  pub opening_back : (is_opening (opening_line t.header) ≡ true) × (opening_read (opening_line t.header) ≡ record { stations = size; own = t.header.own; capacity = t.header.capacity; count = length t.header.kinds })
   unfolding opening_line
   opening_back = opening_reads_back size t.header.own t.header.capacity t.header.kinds opening_fits
 
@@ -127,7 +127,7 @@ module _ (t : Table) (h : is_table t ≡ true) where
   clock_few : length t.clock ≤ greatest_size
   clock_few = omega (arith, F.clock_length, H.size_range.1)
 
-  pub clock_back : clock_read size (clock_line t.clock) ≡ record { ok = true; vector = padded greatest_size t.clock }
+  pub clock_back : (is_clock size (clock_line t.clock) ≡ true) × (clock_read size (clock_line t.clock) ≡ record { vector = padded greatest_size t.clock })
   unfolding clock_line Fitting
   clock_back = rw (sym F.clock_length) (clock_reads_back t.clock clock_few (omega arith, fit_each 4 t.clock clock_below))
 
@@ -148,13 +148,13 @@ module _ (t : Table) (h : is_table t ≡ true) where
               below_most vector t.clock (and_left (at_most vector t.clock) (eqb (get_or vector k 0) (get_or t.clock k 0)) rest) clock_below,
             )
 
-    pub last_back : last_read size (last_line k vector) ≡ record { ok = true; station = k; vector = padded greatest_size vector }
+    pub last_back : (is_last size (last_line k vector) ≡ true) × (last_read size (last_line k vector) ≡ record { station = k; vector = padded greatest_size vector })
     unfolding last_line Fitting
     last_back =
         rw (sym last_known.0) (last_reads_back vector (omega (arith, last_known.0, H.size_range.1)) k (omega arith, (omega (arith, b, H.size_range.1), fit_each 4 vector last_known.1)))
 
   -- the words of any total, of an object of the table
-  pub total_back : (o : ℕ) (z : ℤ) → o < length t.header.kinds → total_read (total_line o z) ≡ record { ok = true; object = o; high = complement z / word_limit; low = complement z % word_limit }
+  pub total_back : (o : ℕ) (z : ℤ) → o < length t.header.kinds → (is_total (total_line o z) ≡ true) × (total_read (total_line o z) ≡ record { object = o; high = complement z / word_limit; low = complement z % word_limit })
   unfolding total_line Fitting
   total_back o z b =
       total_reads_back o (complement z / word_limit) (complement z % word_limit) (omega arith, (omega (arith, H.objects_range.1), (omega (arith, code_fits z), (omega arith, tt))))
@@ -182,16 +182,17 @@ module _ (t : Table) (h : is_table t ≡ true) where
     abbrev entries : List ℕ
     entries = words.padded size r.operation.vector
 
-    pub row_back : row_read size (row_line size r)
-        ≡ record { ok = true; object = r.operation.object; code = r.operation.code; settled = cond r.settled 1 0; sender = r.operation.sender; value = r.operation.value; vector = padded greatest_size entries }
+    pub row_back : (is_row size (row_line size r) ≡ true) × (row_read size (row_line size r) ≡ record { object = r.operation.object; code = r.operation.code; settled = cond r.settled 1 0; sender = r.operation.sender; value = r.operation.value; vector = padded greatest_size entries })
     unfolding row_line Fitting
     row_back =
         let long : length entries ≡ size = length_padded size r.operation.vector row_known.1 in
         let byte : cond r.settled 1 0 ≤ 1 = cases r.settled (λ q. rw q (omega arith)) (λ q. rw q (omega arith)) in
-        ap (λ (n : ℕ). row_read n (row_line size r)) (sym long)
-        ∙ row_reads_back entries (omega (arith, long, H.size_range.1)) r.operation.object r.operation.code (cond r.settled 1 0) r.operation.sender r.operation.value
-        (omega arith, (omega (arith, R.declared, H.objects_range.1), (omega (arith, row_code), (omega (arith, byte), (omega (arith, row_known.0), (omega (arith, row_small t h r m), fit_each 4 entries (below_padded r.operation.vector (size - length r.operation.vector) row_known.2)))))))
+        subst
+        (λ (n : ℕ). (is_row n (row_line size r) ≡ true) × (row_read n (row_line size r) ≡ record { object = r.operation.object; code = r.operation.code; settled = cond r.settled 1 0; sender = r.operation.sender; value = r.operation.value; vector = padded greatest_size entries }))
+        long
+        (row_reads_back entries (omega (arith, long, H.size_range.1)) r.operation.object r.operation.code (cond r.settled 1 0) r.operation.sender r.operation.value
+        (omega arith, (omega (arith, R.declared, H.objects_range.1), (omega (arith, row_code), (omega (arith, byte), (omega (arith, row_known.0), (omega (arith, row_small t h r m), fit_each 4 entries (below_padded r.operation.vector (size - length r.operation.vector) row_known.2))))))))
 
-  pub closing_back : closing_read (closing_line (length t.rows)) ≡ record { ok = true; rows = length t.rows }
+  pub closing_back : (is_closing (closing_line (length t.rows)) ≡ true) × (closing_read (closing_line (length t.rows)) ≡ record { rows = length t.rows })
   unfolding closing_line Fitting
   closing_back = closing_reads_back (length t.rows) (omega arith, (omega (arith, F.within, H.capacity_range.1), tt))

@@ -5,10 +5,10 @@ ghost use Rattle.std.specs.Prelude.{◌≡◌, ◌++◌, ◌+◌, ◌<◌};
 ghost use Rattle.words_layout.specs.Words.{word_limit};
 ghost use Rattle.words_layout.specs.Layout.{table_of};
 ghost use Rattle.table_rules.specs.Checked.{Checked};
-ghost use Rattle.form_write.specs.Forms.{formed_of, line_at, row_lines, saved_form, total_lines};
+ghost use Rattle.form_write.specs.Forms.{line_at, row_lines, saved_form, total_lines};
 ghost use Rattle.form_write.specs.Seeking.{counter_at, other_at};
 
-use line_put::Written;
+use line_put::TooShort;
 use words_layout::{COUNT_AT, KINDS_AT, OBJECTS_AT, OWN_AT, SIZE_AT};
 use words_tags::{RowCount, Station};
 
@@ -19,105 +19,85 @@ const CLOCK_PLACE: usize = 1;
 
 const LASTS_PLACE: usize = 2;
 
-// What is asked for: a line of so many characters, no line any more, or a line that the space is too short for.
-#[derive(Clone, Copy)]
-pub enum Formed {
-    Line(usize),
-    End,
-    TooShort,
-}
-
-// The counter behind so many others: its object, or what is left of the number when all counters are passed.
-#[derive(Clone, Copy)]
-pub enum Sought {
-    At(usize),
-    Behind(usize),
-}
-
-// What a line that was written to a space is given as.
-fn as_formed(w: Written) -> Formed
-    ensures { result ≡ formed_of w }
-{
-    match w {
-        Written::Characters(n) => Formed::Line(n),
-        Written::TooShort => Formed::TooShort,
-    }
-}
-
 // Which other station has so many other stations ahead of it: the own one is passed over.
+#[tactic(auto, using(std::proofs::lemmas::Bool::Decides::nat_tests), unfolding(crate::specs::Seeking::other_at))]
 pub fn other(own: Station, ahead: u32) -> Station
     requires { ahead + 1 < word_limit }
     ensures { result.0 ≡ other_at own.0 ahead }
 {
     if ahead < own.0 {
-        return Station(ahead);
+        Station(ahead)
+    } else {
+        Station(ahead + 1)
     }
-    Station(ahead + 1)
 }
 
-// Which object is the counter that has so many counters ahead of it.
-pub fn counter(kinds: &[u32], ahead: usize) -> Sought
+// Which object is the counter that has so many counters ahead of it; or what is left of the number when all counters are passed.
+pub fn counter(kinds: &[u32], ahead: usize) -> Result<usize, usize>
     ensures { result ≡ counter_at kinds.now 0 ahead }
 {
-    let mut object = 0;
     let mut left = ahead;
-    while object < kinds.len() {
-        if table_kinds::is_counter(kinds[object]) {
+    for (object, kind) in kinds.iter().enumerate() {
+        if table_kinds::is_counter(*kind) {
             if left == 0 {
-                return Sought::At(object);
+                return Ok(object);
             }
             left -= 1;
-            object += 1;
-        } else {
-            object += 1;
         }
     }
-    Sought::Behind(left)
+    Err(left)
 }
 
 // The lines behind the totals: a line for each row, and the closing line.
-fn write_behind_totals(space: &[u32], place: usize, out: &mut [u8]) -> Formed
+fn write_behind_totals(
+    space: &[u32],
+    place: usize,
+    out: &mut [u8],
+) -> Result<Option<usize>, TooShort>
     requires { Checked space.now }
     ensures { (result, out.new) ≡ line_at (row_lines (table_of space.now)) place out.old }
 {
     let rows = words_tags::wide(space[COUNT_AT]);
     if place < rows {
-        return as_formed(form_lines::write_row(space, RowCount(place as u32), out));
+        form_lines::write_row(space, RowCount(place as u32), out).map(Some)
+    } else if place == rows {
+        form_lines::write_closing(space, out).map(Some)
+    } else {
+        Ok(None)
     }
-    if place == rows {
-        return as_formed(form_lines::write_closing(space, out));
-    }
-    Formed::End
 }
 
 // The lines behind the last vectors: a line for each counter, and what is behind them.
-fn write_behind_lasts(space: &[u32], place: usize, out: &mut [u8]) -> Formed
+fn write_behind_lasts(
+    space: &[u32],
+    place: usize,
+    out: &mut [u8],
+) -> Result<Option<usize>, TooShort>
     requires { Checked space.now }
     ensures { (result, out.new) ≡ line_at (total_lines (table_of space.now) ++ row_lines (table_of space.now)) place out.old }
 {
     let end = KINDS_AT + words_tags::wide(space[OBJECTS_AT]);
     match counter(&space[KINDS_AT..end], place) {
-        Sought::At(object) => as_formed(form_lines::write_total(space, object as u32, out)),
-        Sought::Behind(left) => write_behind_totals(space, left, out),
+        Ok(object) => form_lines::write_total(space, object as u32, out).map(Some),
+        Err(left) => write_behind_totals(space, left, out),
     }
 }
 
-// The line of the form at a place, into a space; behind the last there is none.
-pub fn write_line(space: &[u32], k: usize, out: &mut [u8]) -> Formed
+// The line of the form at a place, into a space: how many characters it has, or that there is none behind the last line.
+pub fn write_line(space: &[u32], k: usize, out: &mut [u8]) -> Result<Option<usize>, TooShort>
     requires { Checked space.now }
     ensures { (result, out.new) ≡ line_at (saved_form (table_of space.now)) k out.old }
 {
-    if k == OPENING_PLACE {
-        return as_formed(form_lines::write_opening(space, out));
-    }
-    if k == CLOCK_PLACE {
-        return as_formed(form_lines::write_clock(space, out));
-    }
     // The own station has no line: one line less than there are stations follows that of the clock.
     let lasts_end = CLOCK_PLACE + words_tags::wide(space[SIZE_AT]);
-    if k < lasts_end {
+    if k == OPENING_PLACE {
+        form_lines::write_opening(space, out).map(Some)
+    } else if k == CLOCK_PLACE {
+        form_lines::write_clock(space, out).map(Some)
+    } else if k < lasts_end {
         let station = other(Station(space[OWN_AT]), (k - LASTS_PLACE) as u32);
-        return as_formed(form_lines::write_last(space, station, out));
+        form_lines::write_last(space, station, out).map(Some)
+    } else {
+        write_behind_lasts(space, k - lasts_end, out)
     }
-    write_behind_lasts(space, k - lasts_end, out)
 }

@@ -1,8 +1,8 @@
 -- A line's kind is that of its type, and a line that has a type's shape is of that type.
-use mathlib.Core.Path.{◌≡◌, refl, sym, ap, ◌∙◌, subst}
+use mathlib.Core.Path.{◌≡◌, refl, subst}
 use mathlib.Core.Bool.{Bool, true, false, not, ◌&&◌, false≢true}
 use mathlib.Core.List.{List, [], ◌∷◌}
-use Prim.Native.Nat.{ℕ, suc, ◌+◌, ◌*◌, ◌≤◌, ◌<◌, ◌-◌}
+use Prim.Native.Nat.{ℕ, suc, ◌+◌, ◌*◌, ◌≤◌, ◌-◌}
 use native.Mathlib.Omega.{arith}
 use lib.Dec.{T, eqb}
 use lib.ListN.{length}
@@ -10,11 +10,11 @@ use borrow.Author.Tests.{eqb-true, ne_eqb}
 use mir.Val.{has_key}
 use types.Run.{OneOf, miss}
 use denote.Enum.Declared as enum
-use Rattle.meaning.proofs.Tests.{and_right, between_in, between_out, cases, fails}
+use Rattle.meaning.proofs.Tests.{and_right, between_out, cases}
+use Rattle.std.proofs.Common.{Some, None}
 use Rattle.line_hex.specs.Choice.{pick}
 use Rattle.line_hex.specs.Hex.{is_digit}
-use Rattle.line_hex.specs.Decoding.{byte_of, is_line, pair_of, pairs, type_of_pair}
-use Rattle.line_hex.specs.declared.Pair.TheVariants.{Byte, Other}
+use Rattle.line_hex.specs.Decoding.{byte_of, is_line, pair_of, pairs}
 use Rattle.line_shape.specs.Reading.{has_shape, starts_with}
 use Rattle.line_shape.specs.Shapes.{length_of}
 use Rattle.line_read.specs.Types.{Line, head_of, is_of, longest}
@@ -24,29 +24,17 @@ use Rattle.line_decode.specs.declared.LineKind.TheVariants as kind
 use Rattle.line_decode.specs.LineKinds.{kind_of, saved_type}
 use Rattle.line_decode.specs.contracts.LineKind.{the_type}
 
-pub of_type : (line : Line) (k : LineKind) → kind_of line.type_byte ≡ k → (byte : ℕ) → byte ≡ line.type_byte → k ≡ kind_of byte
-of_type line k e byte z = sym (ap kind_of z ∙ e)
-
 -- a type that none of the named ones is
 module _ (byte : ℕ) (n16 : byte ≡ 16 → ⊥) (n32 : byte ≡ 32 → ⊥) (n33 : byte ≡ 33 → ⊥) (n48 : byte ≡ 48 → ⊥) (n64 : byte ≡ 64 → ⊥) (n96 : byte ≡ 96 → ⊥) where
-  other : (saved : Bool) → saved_type byte ≡ saved → pick saved kind.Saved kind.Unknown ≡ kind_of byte
+  saved_between : saved_type byte ≡ true → kind_of byte ≡ kind.Saved
   unfolding kind_of
-  other saved e = rw (ne_eqb byte 16 n16, ne_eqb byte 32 n32, ne_eqb byte 33 n33, ne_eqb byte 48 n48, ne_eqb byte 64 n64, ne_eqb byte 96 n96, e) refl
-
-  pub unknown_below : byte < 80 → kind.Unknown ≡ kind_of byte
-  unknown_below h = other false (fails (saved_type byte) (λ t. absurd (omega (arith, (between_out 80 95 byte t).0))))
-
-  pub unknown_above : 95 < byte → kind.Unknown ≡ kind_of byte
-  unknown_above h = other false (fails (saved_type byte) (λ t. absurd (omega (arith, (between_out 80 95 byte t).1))))
-
-  pub saved_between : 80 ≤ byte → byte ≤ 95 → kind.Saved ≡ kind_of byte
-  saved_between l h = other true (between_in 80 95 byte l h)
+  saved_between e = rw (ne_eqb byte 16 n16, ne_eqb byte 32 n32, ne_eqb byte 33 n33, ne_eqb byte 48 n48, ne_eqb byte 64 n64, ne_eqb byte 96 n96, e) refl
 
 pub saved_kind : (type : ℕ) → saved_type type ≡ true → kind_of type ≡ kind.Saved
 saved_kind type s =
     let l : 80 ≤ type = (between_out 80 95 type s).0 in
     let h : type ≤ 95 = (between_out 80 95 type s).1 in
-    sym (saved_between type (λ z. absurd (omega arith)) (λ z. absurd (omega arith)) (λ z. absurd (omega arith)) (λ z. absurd (omega arith)) (λ z. absurd (omega arith)) (λ z. absurd (omega arith)) l h)
+    saved_between type (λ z. absurd (omega arith)) (λ z. absurd (omega arith)) (λ z. absurd (omega arith)) (λ z. absurd (omega arith)) (λ z. absurd (omega arith)) (λ z. absurd (omega arith)) s
 
 -- what a kind says of a type
 abbrev Says : LineKind → ℕ → Type 0
@@ -71,9 +59,6 @@ kind_says type k e = subst (λ (q : LineKind). Says q type) e
     saved true q = q
     saved false q = q
 
-pub kind_known : (line_type type : ℕ) (k : LineKind) → type ≡ line_type → k ≡ kind_of type → k ≡ kind_of line_type
-kind_known line_type type k t e = e ∙ ap kind_of t
-
 -- what a `match` knows of a kind that is none of its arms before
 abbrev place_of : LineKind → ℕ
 place_of k = enum.tag_of the_type k
@@ -88,7 +73,7 @@ starts_type n type [] e = absurd (false≢true e)
 starts_type n type (h ∷ []) e = absurd (false≢true e)
 starts_type n type (h ∷ l ∷ line) e = by (is_digit h && is_digit l) e
   where
-    by : (b : Bool) → starts_with type (pick b (byte_of h l ∷ pairs n line) []) ≡ true → byte_of_type (type_of_pair (pick b (Byte (byte_of h l)) Other)) ≡ type
+    by : (b : Bool) → starts_with type (pick b (byte_of h l ∷ pairs n line) []) ≡ true → byte_of_type (pick b (Some (byte_of h l)) None) ≡ type
     by true f = eqb-true (byte_of h l) type f
     by false f = absurd (false≢true f)
 

@@ -6,8 +6,10 @@ use mathlib.Core.Logic.{⊎_elim, ◌⊎◌, inl, inr}
 use native.Mathlib.Omega.{arith}
 use borrow.Author.Tests.{lt-ltb, le-ltb, le-leb, lt-leb, ltb-true, ltb-false, leb-true, leb-false}
 use lib.Dec.{ltb, leb}
+use Rattle.std.proofs.Common.{Some, None}
+use Rattle.std.proofs.lemmas.Option.{none-some}
 use Rattle.line_hex.specs.Choice.{pick}
-use Rattle.line_hex.specs.Hex.{digit_of, is_digit, no_digit, value_of}
+use Rattle.line_hex.specs.Hex.{digit_of, digit_value, is_digit, no_digit, value_of}
 
 pub and_left : (a b : Bool) → a && b ≡ true → a ≡ true
 and_left true b h = refl
@@ -17,34 +19,34 @@ pub and_right : (a b : Bool) → a && b ≡ true → b ≡ true
 and_right true b h = h
 and_right false b h = let z : false ≡ true = h in cc
 
--- the five ways through value_of
+-- the five cases of value_of
 module _ (c : ℕ) where
-  pub value_low : c < 48 → no_digit ≡ value_of c
+  value_low : c < 48 → no_digit ≡ value_of c
   unfolding value_of
   value_low h = rw (lt-ltb c 48 h) refl
 
-  pub value_figure : 48 ≤ c → c ≤ 57 → c - 48 ≡ value_of c
+  value_figure : 48 ≤ c → c ≤ 57 → c - 48 ≡ value_of c
   unfolding value_of
   value_figure h k = rw (le-ltb c 48 h, le-leb c 57 k) refl
 
-  pub value_between : 48 ≤ c → 57 < c → c < 97 → no_digit ≡ value_of c
+  value_between : 48 ≤ c → 57 < c → c < 97 → no_digit ≡ value_of c
   unfolding value_of
   value_between h k g = rw (le-ltb c 48 h, lt-leb c 57 k, lt-ltb c 97 g) refl
 
-  pub value_letter : 48 ≤ c → 57 < c → 97 ≤ c → c ≤ 102 → c - 97 + 10 ≡ value_of c
+  value_letter : 48 ≤ c → 57 < c → 97 ≤ c → c ≤ 102 → c - 97 + 10 ≡ value_of c
   unfolding value_of
   value_letter h k g f = rw (le-ltb c 48 h, lt-leb c 57 k, le-ltb c 97 g, le-leb c 102 f) refl
 
-  pub value_high : 48 ≤ c → 57 < c → 97 ≤ c → 102 < c → no_digit ≡ value_of c
+  value_high : 48 ≤ c → 57 < c → 97 ≤ c → 102 < c → no_digit ≡ value_of c
   unfolding value_of
   value_high h k g f = rw (le-ltb c 48 h, lt-leb c 57 k, le-ltb c 97 g, lt-leb c 102 f) refl
 
--- the two ways through digit_of
-pub digit_figure : (v : ℕ) → v < 10 → v + 48 ≡ digit_of v
+-- the two cases of digit_of
+digit_figure : (v : ℕ) → v < 10 → v + 48 ≡ digit_of v
 unfolding digit_of
 digit_figure v h = rw (lt-ltb v 10 h) refl
 
-pub digit_letter : (v : ℕ) → 10 ≤ v → v - 10 + 97 ≡ digit_of v
+digit_letter : (v : ℕ) → 10 ≤ v → v - 10 + 97 ≡ digit_of v
 unfolding digit_of
 digit_letter v h = rw (le-ltb v 10 h) refl
 
@@ -52,13 +54,27 @@ pub digit_small : (c : ℕ) → is_digit c ≡ true → value_of c < 16
 unfolding is_digit
 digit_small c h = ltb-true (value_of c) 16 h
 
-pub small_digit : (c : ℕ) → value_of c < 16 → is_digit c ≡ true
+small_digit : (c : ℕ) → value_of c < 16 → is_digit c ≡ true
 unfolding is_digit
 small_digit c h = lt-ltb (value_of c) 16 h
 
-pub large_no_digit : (c : ℕ) → 16 ≤ value_of c → is_digit c ≡ false
-unfolding is_digit
-large_no_digit c h = le-ltb (value_of c) 16 h
+-- what is read of a character: its value below 16 where it is a digit
+module _ (c : ℕ) where
+  pub value_read : (v : ℕ) → Some v ≡ digit_value c → (is_digit c ≡ true) × (v ≡ value_of c) × (v < 16)
+  unfolding digit_value
+  value_read v = go (is_digit c) refl
+    where
+      go : (b : Bool) → is_digit c ≡ b → Some v ≡ pick b (Some (value_of c)) None → (b ≡ true) × (v ≡ value_of c) × (v < 16)
+      go true d e = let same : v ≡ value_of c = cc in (refl, same, omega (arith, digit_small c d))
+      go false d e = absurd (none-some v (sym e))
+
+  pub none_read : None ≡ digit_value c → is_digit c ≡ false
+  unfolding digit_value
+  none_read = go (is_digit c)
+    where
+      go : (b : Bool) → None ≡ pick b (Some (value_of c)) None → b ≡ false
+      go true e = absurd (none-some (value_of c) e)
+      go false e = refl
 
 -- a value's digit has that value
 pub value_digit_of : (v : ℕ) → v < 16 → value_of (digit_of v) ≡ v

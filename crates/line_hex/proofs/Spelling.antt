@@ -8,11 +8,11 @@ use borrow.Author.Tests.{eqb-false, eqb-true, ne_eqb}
 use lib.Dec.{eqb}
 use lib.ListN.{length, get_or, take, drop, drop_of_length-le, length-drop, take-append-drop}
 use lib.Seq.{drop_at, drop-cons, get_or-take, length-take-le, take_at}
+use Rattle.std.proofs.Common.{Some, None}
 use Rattle.line_hex.specs.Choice.{pick}
 use Rattle.line_hex.specs.Hex.{digits_of, hex_line, is_digit, lf, value_of}
 use Rattle.line_hex.specs.Numbers.{AllBytes}
 use Rattle.line_hex.specs.Decoding.{byte_of, decoded, is_line, just_lf, line_type, pair_of, pairs, refusal_of}
-use Rattle.line_hex.specs.declared.Decoded.TheVariants.{Bytes, Malformed}
 use Rattle.line_hex.proofs.Digits.{and_left, and_right, digit_digit_of, digit_small, digit_value_of, value_digit_of}
 use Rattle.line_hex.proofs.Writing.{length_digits}
 
@@ -27,7 +27,7 @@ pairs_written (suc room) (b ∷ bs) h k =
     rw (digit_digit_of (b / 16) (omega arith), digit_digit_of (b % 16) (omega arith), value_digit_of (b / 16) (omega arith), value_digit_of (b % 16) (omega arith), whole, pairs_written room bs h.1 (omega arith)) refl
 
 -- what is written reads back, wherever it fits
-pub line_reads_back : (bs buffer : List ℕ) → AllBytes bs → length bs ≤ length buffer → decoded (hex_line bs) buffer ≡ (Bytes (length bs), bs ++ drop (length bs) buffer)
+pub line_reads_back : (bs buffer : List ℕ) → AllBytes bs → length bs ≤ length buffer → decoded (hex_line bs) buffer ≡ (Some (length bs), bs ++ drop (length bs) buffer)
 unfolding decoded is_line hex_line just_lf
 line_reads_back bs buffer h k = rw (pairs_written (length buffer) bs h k, drop_at (digits_of bs) (lf ∷ []) (2 * length bs) (length_digits bs)) refl
 
@@ -63,11 +63,11 @@ unfolding is_line hex_line
 line_only_spelling room line h = rw (digits_pairs room line, ← just_lf_lem (drop (2 * length (pairs room line)) line) h) (take-append-drop (2 * length (pairs room line)) line)
 
 -- the same of the answer: where `count` bytes are given, their spelling is the line
-pub decoded_only_spelling : (line buffer : List ℕ) (count : ℕ) → (decoded line buffer).0 ≡ Bytes count → hex_line (take count (decoded line buffer).1) ≡ line
+pub decoded_only_spelling : (line buffer : List ℕ) (count : ℕ) → (decoded line buffer).0 ≡ Some count → hex_line (take count (decoded line buffer).1) ≡ line
 unfolding decoded
 decoded_only_spelling line buffer count = go (is_line (length buffer) line) refl
   where
-    go : (t : Bool) → is_line (length buffer) line ≡ t → pick t (Bytes (length (pairs (length buffer) line))) Malformed ≡ Bytes count → hex_line (take count (pairs (length buffer) line ++ drop (length (pairs (length buffer) line)) buffer)) ≡ line
+    go : (t : Bool) → is_line (length buffer) line ≡ t → pick t (Some (length (pairs (length buffer) line))) None ≡ Some count → hex_line (take count (pairs (length buffer) line ++ drop (length (pairs (length buffer) line)) buffer)) ≡ line
     go true e f = let many : length (pairs (length buffer) line) ≡ count = cc in rw (take_at (pairs (length buffer) line) (drop (length (pairs (length buffer) line)) buffer) count many) (line_only_spelling (length buffer) line e)
     go false e f = absurd (let z : ◌≡◌ {A = ℕ} 0 1 = cc in omega arith)
 
@@ -86,11 +86,11 @@ all_bytes_pairs (suc room) (h ∷ l ∷ line) = go (is_digit h && is_digit l) re
         let kl : value_of l < 16 = digit_small l (and_right (is_digit h) (is_digit l) e) in
         (omega arith, rest)
 
-pub all_bytes_decoded : (line buffer : List ℕ) (count : ℕ) → (decoded line buffer).0 ≡ Bytes count → AllBytes (take count (decoded line buffer).1)
+pub all_bytes_decoded : (line buffer : List ℕ) (count : ℕ) → (decoded line buffer).0 ≡ Some count → AllBytes (take count (decoded line buffer).1)
 unfolding decoded
 all_bytes_decoded line buffer count = go (is_line (length buffer) line)
   where
-    go : (t : Bool) → pick t (Bytes (length (pairs (length buffer) line))) Malformed ≡ Bytes count → AllBytes (take count (pairs (length buffer) line ++ drop (length (pairs (length buffer) line)) buffer))
+    go : (t : Bool) → pick t (Some (length (pairs (length buffer) line))) None ≡ Some count → AllBytes (take count (pairs (length buffer) line ++ drop (length (pairs (length buffer) line)) buffer))
     go true f = let many : length (pairs (length buffer) line) ≡ count = cc in rw (take_at (pairs (length buffer) line) (drop (length (pairs (length buffer) line)) buffer) count many) (all_bytes_pairs (length buffer) line)
     go false f = absurd (let z : ◌≡◌ {A = ℕ} 0 1 = cc in omega arith)
 
@@ -156,6 +156,6 @@ pub refused_unless_line : (line buffer : List ℕ) → refusal_of (decoded line 
 unfolding decoded
 refused_unless_line line buffer = go (is_line (length buffer) line)
   where
-    go : (t : Bool) → refusal_of (pick t (Bytes (length (pairs (length buffer) line))) Malformed) ≡ pick t 0 1
+    go : (t : Bool) → refusal_of (pick t (Some (length (pairs (length buffer) line))) None) ≡ pick t 0 1
     go true = refl
     go false = refl

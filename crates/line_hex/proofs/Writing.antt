@@ -40,44 +40,25 @@ last_byte (suc left) rest h =
     let less : suc left - 1 ≡ left = omega arith in
     rw less (digits_append (big_endian left (rest / 256)) (rest % 256 ∷ []) ∙ rw (q, r) refl)
 
--- what is left to write: the bytes of `rest` in front of what stands from `to` on
-pub record Putting (out₀ : List ℕ) (at number width end : ℕ) (out : List ℕ) (to left rest : ℕ) : Type 0 where
-  pub whole : digits_at out₀ at (big_endian width number) ≡ digits_at out at (big_endian left rest)
-  pub place : to ≡ at + 2 * left
-  pub room : to ≤ length out
-  pub long : length out ≡ length out₀
-  pub after : end ≡ at + 2 * width
+-- what is left to write: so many bytes of `rest`, in front of what stands behind them
+abbrev pub Putting : List ℕ → ℕ → ℕ → ℕ → List ℕ → ℕ → ℕ → Type 0
+Putting out₀ at number width out left rest = digits_at out₀ at (big_endian width number) ≡ digits_at out at (big_endian left rest)
 
-pub putting_start : (out : List ℕ) (at number width end : ℕ) → end ≡ at + 2 * width → at + 2 * width ≤ length out → Putting out at number width end out end width number
-putting_start out at number width end e h = record { whole = refl; place = e; room = omega arith; long = refl; after = e }
+pub putting_turn : (out : List ℕ) (at left rest d e : ℕ) → 0 < left → at + 2 * left ≤ length out → d ≡ digit_of (rest / 16 % 16) → e ≡ digit_of (rest % 16) → digits_at out at (big_endian left rest) ≡ digits_at (set (set out (at + 2 * (left - 1)) d) (at + 2 * (left - 1) + 1) e) at (big_endian (left - 1) (rest / 256))
+unfolding digits_at big_endian digits_of
+putting_turn out at left rest d e h room ed ee =
+    let here : at + 2 * length (big_endian (left - 1) (rest / 256)) ≡ at + 2 * (left - 1) = rw (length_big_endian (left - 1) (rest / 256)) refl in
+    let there : at + 2 * length (big_endian left rest) ≡ at + 2 * (left - 1) + 2 = rw (length_big_endian left rest) (omega arith) in
+    let front : take at (set (set out (at + 2 * (left - 1)) d) (at + 2 * (left - 1) + 1) e) ≡ take at out = take-set-le at (set out (at + 2 * (left - 1)) d) (at + 2 * (left - 1) + 1) e (omega arith) ∙ take-set-le at out (at + 2 * (left - 1)) d (omega arith) in
+    rw (there, here, front, two_set out (at + 2 * (left - 1)) d e (omega arith), last_byte left rest h, append_assoc, ed, ee) refl
 
-module _ (out₀ : List ℕ) (at number width end : ℕ) (out : List ℕ) (to left rest : ℕ) (P : Putting out₀ at number width end out to left rest) where
-  pub putting_turn : (d e : ℕ) → 0 < left → d ≡ digit_of (rest / 16 % 16) → e ≡ digit_of (rest % 16) → Putting out₀ at number width end (set (set out (to - 2) d) (to - 2 + 1) e) (to - 2) (left - 1) (rest / 256)
-  unfolding digits_at big_endian digits_of
-  putting_turn d e h ed ee =
-      let fits : to - 2 + 2 ≤ length out = omega (arith, P.place, P.room) in
-      let here : at + 2 * length (big_endian (left - 1) (rest / 256)) ≡ to - 2 = rw (length_big_endian (left - 1) (rest / 256)) (omega (arith, P.place)) in
-      let there : at + 2 * length (big_endian left rest) ≡ to - 2 + 2 = rw (length_big_endian left rest) (omega (arith, P.place)) in
-      let front : take at (set (set out (to - 2) d) (to - 2 + 1) e) ≡ take at out = take-set-le at (set out (to - 2) d) (to - 2 + 1) e (omega (arith, P.place)) ∙ take-set-le at out (to - 2) d (omega (arith, P.place)) in
-      let long : length (set (set out (to - 2) d) (to - 2 + 1) e) ≡ length out = simp length-set in
-      record {
-        whole = P.whole ∙ rw (there, here, front, two_set out (to - 2) d e fits, last_byte left rest h, append_assoc, ed, ee) refl;
-        place = omega (arith, P.place);
-        room = omega (arith, P.room);
-        long = long ∙ P.long;
-        after = P.after;
-      }
-
-  written_whole : left ≤ 0 → out ≡ digits_at out₀ at (big_endian width number)
-  unfolding digits_at big_endian digits_of
-  written_whole h =
-      let none : left ≡ 0 = omega arith in
-      let here : at + 0 ≡ at = omega arith in
-      sym (P.whole ∙ rw none (rw here (take-append-drop at out)))
-
-  pub putting_done : left ≤ 0 → (end, out) ≡ put_at out₀ at (big_endian width number)
-  unfolding put_at
-  putting_done h = let after : end ≡ place_after at (big_endian width number) = rw (length_big_endian width number) P.after in cc (written_whole h)
+pub putting_done : (out₀ : List ℕ) (at number width : ℕ) (out : List ℕ) (rest : ℕ) → Putting out₀ at number width out 0 rest → (at + 2 * width, out) ≡ put_at out₀ at (big_endian width number)
+unfolding put_at digits_at big_endian digits_of
+putting_done out₀ at number width out rest P =
+    let here : at + 0 ≡ at = omega arith in
+    let whole : out ≡ digits_at out₀ at (big_endian width number) = sym (P ∙ rw here (take-append-drop at out)) in
+    let after : at + 2 * width ≡ place_after at (big_endian width number) = rw (length_big_endian width number) refl in
+    cc whole
 
 -- one piece after the other is both at once
 module _ (space : List ℕ) (at : ℕ) (a : List ℕ) (fits : place_after at a ≤ length space) where

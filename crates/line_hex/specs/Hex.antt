@@ -1,5 +1,5 @@
 -- "Lines of hexadecimal": "lower case, each line ended by one LF".
-use Rattle.std.specs.Prelude.{ℕ, ◌+◌, ◌-◌, ◌/◌, ◌%◌, Bool, List, [], ◌∷◌, ◌++◌, leb, ltb}
+use Rattle.std.specs.Prelude.{ℕ, ◌+◌, ◌-◌, ◌/◌, ◌%◌, Bool, List, [], ◌∷◌, ◌++◌, Option, Some, None, leb, ltb}
 use Rattle.line_hex.specs.Choice.{pick}
 
 abbrev pub lf : ℕ
@@ -36,6 +36,10 @@ digit_of v = pick (ltb v 10) (v + figure_zero) (v - 10 + letter_a)
 
 unfoldable pub is_digit : ℕ → Bool
 is_digit c = ltb (value_of c) no_digit
+
+-- the value of a character that is a digit
+unfoldable pub digit_value : ℕ → Option ℕ
+digit_value c = pick (is_digit c) (Some (value_of c)) None
 
 -- two digits a byte
 unfoldable pub digits_of : List ℕ → List ℕ

@@ -1,52 +1,61 @@
 // The lines that a station prints: answers, operations and the lines of a saved form, each straight into a lent space.
-#![tactic(auto)]
+#![tactic(auto, unfolding(crate::specs::Printed::printed))]
 
 ghost use Rattle.std.specs.Prelude.{◌≡◌, [], ◌∷◌, length};
 ghost use Rattle.line_read.specs.Types.{clock, closing, count, done, flag, last_vector, opening, operation, refused, row, sum, total};
 ghost use Rattle.line_print.specs.Printed.{printed};
 ghost use Rattle.line_put.specs.Writing.{Countable};
 
+use line_put::TooShort;
+
 // The width of a kind.
 const ONE: usize = 1;
 
 // `ff` and the refusal number.
-pub fn write_refusal(out: &mut [u8], number: u32) -> line_put::Written
+pub fn write_refusal(out: &mut [u8], number: u32) -> Result<usize, TooShort>
     ensures { (result, out.new) ≡ printed out.old refused (number ∷ []) [] }
 {
-    let fields = [line_read::REFUSED as u32, number];
-    line_put::write_alone(out, &line_read::BYTE_WIDTHS, &fields)
+    line_put::write_alone(
+        out,
+        &line_read::BYTE_WIDTHS,
+        &[line_read::REFUSED as u32, number],
+    )
 }
 
 // `00` alone.
-pub fn write_done(out: &mut [u8]) -> line_put::Written
+pub fn write_done(out: &mut [u8]) -> Result<usize, TooShort>
     ensures { (result, out.new) ≡ printed out.old done [] [] }
 {
-    let fields = [line_read::DONE as u32];
-    line_put::write_alone(out, &line_read::ALONE_WIDTHS, &fields)
+    line_put::write_alone(out, &line_read::ALONE_WIDTHS, &[line_read::DONE as u32])
 }
 
 // `00` and one byte: a flag, or whether a value is held.
-pub fn write_flag(out: &mut [u8], on: u32) -> line_put::Written
+pub fn write_flag(out: &mut [u8], on: u32) -> Result<usize, TooShort>
     ensures { (result, out.new) ≡ printed out.old flag (on ∷ []) [] }
 {
-    let fields = [line_read::DONE as u32, on];
-    line_put::write_alone(out, &line_read::BYTE_WIDTHS, &fields)
+    line_put::write_alone(out, &line_read::BYTE_WIDTHS, &[line_read::DONE as u32, on])
 }
 
 // `00` and two bytes: steps taken, or different values.
-pub fn write_count(out: &mut [u8], number: u32) -> line_put::Written
+pub fn write_count(out: &mut [u8], number: u32) -> Result<usize, TooShort>
     ensures { (result, out.new) ≡ printed out.old count (number ∷ []) [] }
 {
-    let fields = [line_read::DONE as u32, number];
-    line_put::write_alone(out, &line_read::TWO_BYTE_WIDTHS, &fields)
+    line_put::write_alone(
+        out,
+        &line_read::TWO_BYTE_WIDTHS,
+        &[line_read::DONE as u32, number],
+    )
 }
 
 // `00` and the two words of a total.
-pub fn write_sum(out: &mut [u8], high: u32, low: u32) -> line_put::Written
+pub fn write_sum(out: &mut [u8], high: u32, low: u32) -> Result<usize, TooShort>
     ensures { (result, out.new) ≡ printed out.old sum (high ∷ low ∷ []) [] }
 {
-    let fields = [line_read::DONE as u32, high, low];
-    line_put::write_alone(out, &line_read::SUM_WIDTHS, &fields)
+    line_put::write_alone(
+        out,
+        &line_read::SUM_WIDTHS,
+        &[line_read::DONE as u32, high, low],
+    )
 }
 
 // `20`: an operation, its N the vector's length.
@@ -57,7 +66,7 @@ pub fn write_operation(
     code: u32,
     value: u32,
     vector: &[u32],
-) -> line_put::Written
+) -> Result<usize, TooShort>
     requires { Countable vector.now }
     ensures { (result, out.new) ≡ printed out.old operation (length vector.now ∷ sender ∷ object ∷ code ∷ value ∷ []) vector.now }
 {
@@ -86,7 +95,7 @@ pub fn write_opening(
     own: u32,
     capacity: u32,
     kinds: &[u32],
-) -> line_put::Written
+) -> Result<usize, TooShort>
     requires { Countable kinds.now }
     ensures { (result, out.new) ≡ printed out.old opening (stations ∷ own ∷ capacity ∷ length kinds.now ∷ []) kinds.now }
 {
@@ -96,7 +105,7 @@ pub fn write_opening(
 }
 
 // `50`: D.
-pub fn write_clock(out: &mut [u8], vector: &[u32]) -> line_put::Written
+pub fn write_clock(out: &mut [u8], vector: &[u32]) -> Result<usize, TooShort>
     requires { Countable vector.now }
     ensures { (result, out.new) ≡ printed out.old clock [] vector.now }
 {
@@ -111,7 +120,7 @@ pub fn write_clock(out: &mut [u8], vector: &[u32]) -> line_put::Written
 }
 
 // `51`: k and L[k].
-pub fn write_last(out: &mut [u8], station: u32, vector: &[u32]) -> line_put::Written
+pub fn write_last(out: &mut [u8], station: u32, vector: &[u32]) -> Result<usize, TooShort>
     requires { Countable vector.now }
     ensures { (result, out.new) ≡ printed out.old last_vector (station ∷ []) vector.now }
 {
@@ -126,11 +135,14 @@ pub fn write_last(out: &mut [u8], station: u32, vector: &[u32]) -> line_put::Wri
 }
 
 // `52`: a counter and the two words of its total.
-pub fn write_total(out: &mut [u8], object: u32, high: u32, low: u32) -> line_put::Written
+pub fn write_total(out: &mut [u8], object: u32, high: u32, low: u32) -> Result<usize, TooShort>
     ensures { (result, out.new) ≡ printed out.old total (object ∷ high ∷ low ∷ []) [] }
 {
-    let fields = [line_read::TOTAL as u32, object, high, low];
-    line_put::write_alone(out, &line_read::TOTAL_WIDTHS, &fields)
+    line_put::write_alone(
+        out,
+        &line_read::TOTAL_WIDTHS,
+        &[line_read::TOTAL as u32, object, high, low],
+    )
 }
 
 // `53`: a row, its vector all zeros where it is settled.
@@ -142,7 +154,7 @@ pub fn write_row(
     sender: u32,
     value: u32,
     vector: &[u32],
-) -> line_put::Written
+) -> Result<usize, TooShort>
     requires { Countable vector.now }
     ensures { (result, out.new) ≡ printed out.old row (object ∷ code ∷ settled ∷ sender ∷ value ∷ []) vector.now }
 {
@@ -157,9 +169,12 @@ pub fn write_row(
 }
 
 // `5f`: the row count.
-pub fn write_closing(out: &mut [u8], rows: u32) -> line_put::Written
+pub fn write_closing(out: &mut [u8], rows: u32) -> Result<usize, TooShort>
     ensures { (result, out.new) ≡ printed out.old closing (rows ∷ []) [] }
 {
-    let fields = [line_read::CLOSING as u32, rows];
-    line_put::write_alone(out, &line_read::CLOSING_WIDTHS, &fields)
+    line_put::write_alone(
+        out,
+        &line_read::CLOSING_WIDTHS,
+        &[line_read::CLOSING as u32, rows],
+    )
 }

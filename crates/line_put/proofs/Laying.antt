@@ -71,14 +71,14 @@ pub fielding_start : (out : List ℕ) (at : ℕ) (widths fields : List ℕ) → 
 fielding_start out at widths fields e h = record { laying = laying_start out at (written widths fields) (omega (arith, length_written widths fields e)); many = e; within = omega arith }
 
 module _ (out₀ : List ℕ) (at : ℕ) (widths fields out : List ℕ) (to i : ℕ) (F : Fielding out₀ at widths fields out to i) where
-  pub fielding_room : i < length widths → to + 2 * get_or widths i 0 ≤ length out
-  fielding_room h =
+  pub fielding_room : (w : ℕ) → i < length widths → w ≡ get_or widths i 0 → to + 2 * w ≤ length out
+  fielding_room w h e =
       omega (arith, laying_room out₀ at (written widths fields) out to (written (drop i widths) (drop i fields)) F.laying (big_endian (get_or widths i 0) (get_or fields i 0)) (written (drop (i + 1) widths) (drop (i + 1) fields)) (next_field widths fields i F.many h), length_big_endian (get_or widths i 0) (get_or fields i 0))
 
-  pub fielding_turn : (out' : List ℕ) (to' : ℕ) → i < length widths → (to', out') ≡ put_at out to (big_endian (get_or widths i 0) (get_or fields i 0)) → Fielding out₀ at widths fields out' to' (i + 1)
-  fielding_turn out' to' h e =
+  pub fielding_turn : (w n : ℕ) (out' : List ℕ) (to' : ℕ) → i < length widths → w ≡ get_or widths i 0 → n ≡ get_or fields i 0 → (to', out') ≡ put_at out to (big_endian w n) → Fielding out₀ at widths fields out' to' (i + 1)
+  fielding_turn w n out' to' h ew en e =
       record {
-        laying = laying_turn out₀ at (written widths fields) out to (written (drop i widths) (drop i fields)) F.laying (big_endian (get_or widths i 0) (get_or fields i 0)) (written (drop (i + 1) widths) (drop (i + 1) fields)) out' to' (next_field widths fields i F.many h) e;
+        laying = laying_turn out₀ at (written widths fields) out to (written (drop i widths) (drop i fields)) F.laying (big_endian (get_or widths i 0) (get_or fields i 0)) (written (drop (i + 1) widths) (drop (i + 1) fields)) out' to' (next_field widths fields i F.many h) (e ∙ rw (ew, en) refl);
         many = F.many;
         within = omega arith;
       }

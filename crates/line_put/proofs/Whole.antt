@@ -18,9 +18,9 @@ use Rattle.line_hex.proofs.Writing.{digits_at_append, length_digits, length_digi
 use Rattle.line_shape.specs.Shapes.{length_of, written}
 use Rattle.line_shape.proofs.Spelling.{length_written}
 use Rattle.line_shape.proofs.Taking.{head_small}
-use Rattle.line_put.specs.Writing.{line_bytes, line_written, refusal_of, Writable, written_each, two_byte_limit}
-use Rattle.line_put.specs.declared.Written.{Written}
-use Rattle.line_put.specs.declared.Written.TheVariants.{Characters, TooShort}
+use Rattle.line_put.specs.Writing.{line_bytes, line_written, refusal_of, too_short, Writable, written_each, two_byte_limit}
+use Rattle.line_put.specs.declared.TooShort.{TooShort}
+use Rattle.std.proofs.Common.{Result, Ok, Err}
 use Rattle.line_put.proofs.Laying.{length_written_each}
 
 pub length_hex_line : (bytes : List ℕ) → length (hex_line bytes) ≡ 2 * length bytes + 1
@@ -52,7 +52,7 @@ module _ (space widths fields : List ℕ) (width : ℕ) (numbers : List ℕ) (W 
   pub double_fits : (h : ℕ) → h ≡ length_of widths → Fits w64 (2 * (h + width * length numbers))
   double_fits h e = omega (arith, each_small, head_small widths W.head)
 
-  pub write_short : (h : ℕ) → h ≡ length_of widths → length space ≤ 2 * (h + width * length numbers) → (TooShort, space) ≡ line_written space (line_bytes widths fields width numbers)
+  pub write_short : (h : ℕ) → h ≡ length_of widths → length space ≤ 2 * (h + width * length numbers) → (Err too_short, space) ≡ line_written space (line_bytes widths fields width numbers)
   unfolding line_written
   write_short h e k = rw (lt-leb (length (hex_line (line_bytes widths fields width numbers))) (length space) (omega (arith, length_hex_line (line_bytes widths fields width numbers), size_of_line))) refl
 
@@ -86,7 +86,7 @@ module _ (space widths fields : List ℕ) (width : ℕ) (numbers : List ℕ) (W 
       pub write_end : 2 * (h + width * length numbers) < length space → length second ≡ length first → end < length second
       write_end more l = omega (arith, l, first_long, end_is, size_of_line)
 
-      pub write_done : 2 * (h + width * length numbers) < length space → (size : ℕ) (third : List ℕ) → (size, third) ≡ end_at second end → (Characters size, third) ≡ line_written space (line_bytes widths fields width numbers)
+      pub write_done : 2 * (h + width * length numbers) < length space → (size : ℕ) (third : List ℕ) → (size, third) ≡ end_at second end → (Ok size, third) ≡ line_written space (line_bytes widths fields width numbers)
       unfolding line_written
       write_done more size third r =
           let long : size ≡ length (hex_line (line_bytes widths fields width numbers)) = ap (λ (q : ℕ × List ℕ). q.0) r ∙ omega (arith, end_is, length_hex_line (line_bytes widths fields width numbers)) in
@@ -99,6 +99,6 @@ pub refused_when_short : (space bytes : List ℕ) → refusal_of (line_written s
 unfolding line_written
 refused_when_short space bytes = go (leb (length (hex_line bytes)) (length space))
   where
-    go : (t : Bool) → refusal_of (pick {A = Written × List ℕ} t (Characters (length (hex_line bytes)), hex_line bytes ++ drop (length (hex_line bytes)) space) (TooShort, space)).0 ≡ pick t 0 10
+    go : (t : Bool) → refusal_of (pick {A = Result ℕ TooShort × List ℕ} t (Ok (length (hex_line bytes)), hex_line bytes ++ drop (length (hex_line bytes)) space) (Err too_short, space)).0 ≡ pick t 0 10
     go true = refl
     go false = refl

@@ -1,23 +1,20 @@
 -- The same two laws of what the readers give: a line of vectors taken apart, and an opening.
 use Prim.Native.Nat.{ℕ, zero, suc, ◌+◌, ◌-◌, ◌*◌, ◌≤◌, ◌<◌}
 use mathlib.Core.Path.{◌≡◌, refl, sym, ap, ◌∙◌}
-use mathlib.Core.Bool.{Bool, true, false, ◌&&◌}
+use mathlib.Core.Bool.{true, ◌&&◌}
 use mathlib.Core.List.{List, [], ◌∷◌, ◌++◌}
 use native.Mathlib.Omega.{arith}
 use borrow.Author.Tests.{eqb-true, le-leb}
 use lib.Dec.{eqb, leb}
 use lib.ListN.{length, get_or, take, drop, replicate, length-drop, length-replicate}
 use lib.Seq.{drop_at, drop-drop, get_or-drop, take_at}
-use Rattle.line_hex.specs.Choice.{pick}
 use Rattle.line_hex.specs.Numbers.{AllBytes, number_from}
 use Rattle.line_hex.proofs.Digits.{and_left, and_right}
-use Rattle.line_shape.specs.Reading.{entries, fields_read, has_shape, padded, size_of, starts_with, unread}
+use Rattle.line_shape.specs.Reading.{entries, fields_read, has_shape, is_shaped, padded, size_of, starts_with}
 use Rattle.line_shape.specs.Shapes.{Fitting, length_of, read}
-use Rattle.line_shape.specs.declared.Fields.{Fields}
 use Rattle.line_shape.proofs.Spelling.{length_read, read_append}
-use Rattle.line_read.specs.Types.{head_of, is_of, Line, line_of, line_read, shape_of, spelt, opening}
-use Rattle.line_read.specs.Named.{opening_of, opening_read}
-use Rattle.line_read.specs.declared.Opening.{Opening}
+use Rattle.line_read.specs.Types.{head_of, is_line_of, is_of, Line, line_of, line_read, shape_of, spelt, opening}
+use Rattle.line_read.specs.Named.{is_opening, opening_read}
 use Rattle.line_shape.proofs.Taking.{length_head}
 use Rattle.line_read.proofs.Known.{Known, known}
 use Rattle.line_read.proofs.Spelling.{line_of_spelt, only_spelling, reads_back, spelt_is_of}
@@ -41,12 +38,12 @@ module _ (line : Line) (fields more : List ℕ) (many : length fields ≡ length
   written_is_of K = rw (line_of_spelt line fields more many) (spelt_is_of line (length more) K (fields ++ more) fit)
 
   -- what is written reads back: a line with a vector
-  pub line_reads_back : Known line → line.each ≡ 4 → length more ≤ greatest_size → line_read line (length more) (line_of line fields more) ≡ record { ok = true; head = padded 6 (line.type_byte ∷ fields); vector = padded greatest_size more }
-  unfolding line_read fields_read entries is_of
+  pub line_reads_back : Known line → line.each ≡ 4 → length more ≤ greatest_size → (is_line_of line (length more) (line_of line fields more) ≡ true) × (line_read line (length more) (line_of line fields more) ≡ record { head = padded 6 (line.type_byte ∷ fields); vector = padded greatest_size more })
+  unfolding is_line_of is_shaped line_read fields_read entries is_of
   line_reads_back K four few =
       let shape : has_shape line.type_byte (length_of (head_of line) + 4 * length more) (line_of line fields more) ≡ true = ap (λ (w : ℕ). has_shape line.type_byte (length_of (head_of line) + w * length more) (line_of line fields more)) (sym four) ∙ written_is_of K in
       let tail : read (replicate (length more) 4) (drop (length_of (head_of line)) (line_of line fields more)) ≡ more = ap (λ (w : ℕ). read (replicate (length more) w) (drop (length_of (head_of line)) (line_of line fields more))) (sym four) ∙ more_reads_back in
-      rw (le-leb (length more) greatest_size few, shape, head_reads_back, tail) refl
+      (rw (le-leb (length more) greatest_size few, shape) refl, rw (le-leb (length more) greatest_size few, shape, head_reads_back, tail) refl)
 
 take_padded : (m n : ℕ) (l : List ℕ) → length l ≡ n → take n (padded m l) ≡ l
 unfolding padded
@@ -72,18 +69,11 @@ module _ (line : Line) (stations : ℕ) (bytes : List ℕ) (four : line.each ≡
       let many : length (drop 1 (read (head_of line) bytes)) ≡ length line.widths = length-drop 1 (read (head_of line) bytes) ∙ omega (arith, length_read (head_of line) bytes) in
       line_of_spelt line (drop 1 (read (head_of line) bytes)) (entries stations (drop (length_of (head_of line)) bytes)) many ∙ rw (length_entries, drop_one (read (head_of line) bytes) (entries stations (drop (length_of (head_of line)) bytes)) some, head_and_entries) (only_spelling line stations bytes h e)
 
-  pub line_only_spelling : (line_read line stations bytes).ok ≡ true → line_of line (drop 1 (take (length (head_of line)) (line_read line stations bytes).head)) (take stations (line_read line stations bytes).vector) ≡ bytes
-  unfolding line_read fields_read is_of
-  line_only_spelling = go (leb stations greatest_size && has_shape line.type_byte (size_of (head_of line) stations) bytes) refl
-    where
-      whole : Fields
-      whole = record { ok = true; head = padded 6 (read (head_of line) bytes); vector = padded greatest_size (entries stations (drop (length_of (head_of line)) bytes)) }
-
-      go : (t : Bool) → leb stations greatest_size && has_shape line.type_byte (size_of (head_of line) stations) bytes ≡ t → (pick t whole unread).ok ≡ true → line_of line (drop 1 (take (length (head_of line)) (pick t whole unread).head)) (take stations (pick t whole unread).vector) ≡ bytes
-      go true e k =
-          let shape : is_of line stations bytes ≡ true = ap (λ (w : ℕ). has_shape line.type_byte (length_of (head_of line) + w * stations) bytes) four ∙ and_right (leb stations greatest_size) (has_shape line.type_byte (size_of (head_of line) stations) bytes) e in
-          rw (take_padded 6 (length (head_of line)) (read (head_of line) bytes) (length_read (head_of line) bytes), take_padded greatest_size stations (entries stations (drop (length_of (head_of line)) bytes)) length_entries) (apart shape)
-      go false e k = absurd (let z : ◌≡◌ {A = ℕ} 0 1 = cc in omega arith)
+  pub line_only_spelling : is_line_of line stations bytes ≡ true → line_of line (drop 1 (take (length (head_of line)) (line_read line stations bytes).head)) (take stations (line_read line stations bytes).vector) ≡ bytes
+  unfolding is_line_of is_shaped line_read fields_read is_of
+  line_only_spelling e =
+      let shape : is_of line stations bytes ≡ true = ap (λ (w : ℕ). has_shape line.type_byte (length_of (head_of line) + w * stations) bytes) four ∙ and_right (leb stations greatest_size) (has_shape line.type_byte (size_of (head_of line) stations) bytes) e in
+      rw e (rw (take_padded 6 (length (head_of line)) (read (head_of line) bytes) (length_read (head_of line) bytes), take_padded greatest_size stations (entries stations (drop (length_of (head_of line)) bytes)) length_entries) (apart shape))
 
 -- an opening: its kinds are the bytes behind its count
 
@@ -107,13 +97,14 @@ unfolding read
 count_field bytes = rw (drop-drop 1 1 bytes, drop-drop 1 2 bytes, drop-drop 2 3 bytes) (first_number (drop 5 bytes) ∙ get_or-drop 5 bytes 0 0)
 
 pub opening_reads_back : (stations own capacity : ℕ) (kinds : List ℕ) → Fitting (shape_of opening (length kinds)) (opening.type_byte ∷ stations ∷ own ∷ capacity ∷ length kinds ∷ kinds)
-    → opening_read (line_of opening (stations ∷ own ∷ capacity ∷ length kinds ∷ []) kinds) ≡ record { ok = true; stations = stations; own = own; capacity = capacity; count = length kinds }
-unfolding opening_read padded
+    → (is_opening (line_of opening (stations ∷ own ∷ capacity ∷ length kinds ∷ []) kinds) ≡ true) × (opening_read (line_of opening (stations ∷ own ∷ capacity ∷ length kinds ∷ []) kinds) ≡ record { stations = stations; own = own; capacity = capacity; count = length kinds })
+unfolding opening_read is_opening padded
 opening_reads_back stations own capacity kinds fit =
     let fields : List ℕ = stations ∷ own ∷ capacity ∷ length kinds ∷ [] in
     let head : read (head_of opening) (line_of opening fields kinds) ≡ opening.type_byte ∷ fields = head_reads_back opening fields kinds refl fit in
     let many : get_or (line_of opening fields kinds) 5 0 ≡ length kinds = sym (count_field (line_of opening fields kinds)) ∙ ap (λ (l : List ℕ). get_or l 4 0) head in
-    rw (many, written_is_of opening fields kinds refl fit (known opening refl), head) refl
+    let is : is_opening (line_of opening fields kinds) ≡ true = rw many (written_is_of opening fields kinds refl fit (known opening refl)) in
+    (is, rw (is, head) refl)
 
 -- and its kinds stand behind its six bytes
 pub opening_kinds_read_back : (stations own capacity : ℕ) (kinds : List ℕ) → Fitting (shape_of opening (length kinds)) (opening.type_byte ∷ stations ∷ own ∷ capacity ∷ length kinds ∷ kinds)
@@ -137,18 +128,10 @@ opening_apart bytes h e =
     line_of_spelt opening (drop 1 (read (head_of opening) bytes)) (drop 6 bytes) (length-drop 1 (read (head_of opening) bytes) ∙ omega (arith, length_read (head_of opening) bytes))
     ∙ rw count (ap (λ (l : List ℕ). spelt opening (get_or bytes 5 0) (drop 1 l)) (sym all) ∙ only_spelling opening (get_or bytes 5 0) bytes h e)
 
-pub opening_only_spelling : (bytes : List ℕ) → AllBytes bytes → (opening_read bytes).ok ≡ true
+pub opening_only_spelling : (bytes : List ℕ) → AllBytes bytes → is_opening bytes ≡ true
     → line_of opening ((opening_read bytes).stations ∷ (opening_read bytes).own ∷ (opening_read bytes).capacity ∷ (opening_read bytes).count ∷ []) (drop 6 bytes) ≡ bytes
-unfolding opening_read padded read
-opening_only_spelling bytes h = go (is_of opening (get_or bytes 5 0) bytes) refl
-  where
-    whole : Opening
-    whole = opening_of true (padded 6 (read (head_of opening) bytes))
-
-    go : (t : Bool) → is_of opening (get_or bytes 5 0) bytes ≡ t → (pick t whole (opening_of false [])).ok ≡ true
-        → line_of opening ((pick t whole (opening_of false [])).stations ∷ (pick t whole (opening_of false [])).own ∷ (pick t whole (opening_of false [])).capacity ∷ (pick t whole (opening_of false [])).count ∷ []) (drop 6 bytes) ≡ bytes
-    go true e k = opening_apart bytes h e
-    go false e k = absurd (let z : ◌≡◌ {A = ℕ} 0 1 = cc in omega arith)
+unfolding opening_read is_opening padded read
+opening_only_spelling bytes h e = rw e (opening_apart bytes h e)
 
 -- the fields of a line by their names: numbers of a list from a place on
 abbrev pub from : ℕ → ℕ → List ℕ → List ℕ
@@ -172,7 +155,7 @@ head_long : (line : Line) → Known line → (stations : ℕ) (bytes : List ℕ)
 unfolding line_read
 head_long line K stations bytes = length_head bytes (head_of line) line.type_byte stations K.head.few
 
-pub line_only_spelling_named : (line : Line) → Known line → (stations : ℕ) (bytes : List ℕ) → line.each ≡ 4 → AllBytes bytes → (line_read line stations bytes).ok ≡ true
+pub line_only_spelling_named : (line : Line) → Known line → (stations : ℕ) (bytes : List ℕ) → line.each ≡ 4 → AllBytes bytes → is_line_of line stations bytes ≡ true
     → line_of line (from 1 (length line.widths) (line_read line stations bytes).head) (take stations (line_read line stations bytes).vector) ≡ bytes
 line_only_spelling_named line K stations bytes four h e =
     let few : suc (length line.widths) ≤ 6 = K.head.few in

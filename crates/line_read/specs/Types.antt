@@ -1,6 +1,6 @@
 -- "Lines of hexadecimal": the types of line, each by its first byte and the widths of its fields.
 use Rattle.std.specs.Prelude.{ℕ, ◌+◌, ◌*◌, Bool, List, [], ◌∷◌, ◌++◌, replicate}
-use Rattle.line_shape.specs.Reading.{fields_read, has_shape}
+use Rattle.line_shape.specs.Reading.{fields_read, has_shape, is_shaped}
 use Rattle.line_shape.specs.Shapes.{length_of, written}
 use Rattle.line_shape.specs.declared.Fields.{Fields}
 use Rattle.line_put.specs.Writing.{line_bytes}
@@ -92,7 +92,11 @@ spelt line more fields = written (shape_of line more) (line.type_byte ∷ fields
 unfoldable pub is_of : Line → ℕ → List ℕ → Bool
 is_of line more bytes = has_shape line.type_byte (length_of (head_of line) + line.each * more) bytes
 
--- a line of vectors taken apart: what every reader here gives, by the names of its fields
+-- the same of a line of vectors, with as many entries as there is room for
+unfoldable pub is_line_of : Line → ℕ → List ℕ → Bool
+is_line_of line stations bytes = is_shaped line.type_byte (head_of line) stations bytes
+
+-- a line of vectors taken apart: what every reader here gives, by the names of its fields, which are zeros where the shape is wrong
 unfoldable pub line_read : Line → ℕ → List ℕ → Fields
 line_read line stations bytes = fields_read line.type_byte (head_of line) stations bytes
 

@@ -1,10 +1,10 @@
-// The lines that a station reads and those of a saved form: a reader each, which gives the fields by name, with `ok` false and zeros where the shape is wrong.
+// The lines that a station reads and those of a saved form: a reader each, which gives the fields by name where the shape is right.
 #![tactic(auto)]
 
-ghost use Rattle.std.specs.Prelude.{◌≡◌, ◌<◌, get_or};
+ghost use Rattle.std.specs.Prelude.{◌≡◌, Some, None, if◌then◌else◌};
 ghost use Rattle.line_read.specs.Types.{longest};
-ghost use Rattle.line_read.specs.Named.{issue_read, opening_read, operation_read, printing_read, question_read, settling_read};
-ghost use Rattle.line_read.specs.SavedNamed.{clock_read, closing_read, last_read, row_read, total_read};
+ghost use Rattle.line_read.specs.Named.{is_issue, is_opening, is_operation, is_question, is_settling, issue_read, opening_read, operation_read, printing_read, question_read, settling_read};
+ghost use Rattle.line_read.specs.SavedNamed.{clock_read, closing_read, is_clock, is_closing, is_last, is_row, is_total, last_read, row_read, total_read};
 
 // The bytes of the longest line that can get anything but a refusal of its shape: an opening with as many kinds as a byte can count.
 pub const LONGEST: usize = KINDS_PLACE + u8::MAX as usize;
@@ -88,7 +88,6 @@ const STATIONS_PLACE: usize = 1;
 // The kinds stand from KINDS_PLACE on, one byte each.
 #[derive(Clone, Copy)]
 pub struct Opening {
-    pub ok: bool,
     pub stations: u32,
     pub own: u32,
     pub capacity: u32,
@@ -98,7 +97,6 @@ pub struct Opening {
 // Of the vector as many entries are the line's as there are stations; the rest are zeros.
 #[derive(Clone, Copy)]
 pub struct Operation {
-    pub ok: bool,
     pub stations: u32,
     pub sender: u32,
     pub object: u32,
@@ -109,7 +107,6 @@ pub struct Operation {
 
 #[derive(Clone, Copy)]
 pub struct Issue {
-    pub ok: bool,
     pub object: u32,
     pub code: u32,
     pub value: u32,
@@ -117,108 +114,80 @@ pub struct Issue {
 
 #[derive(Clone, Copy)]
 pub struct Settling {
-    pub ok: bool,
     pub limit: u32,
 }
 
 #[derive(Clone, Copy)]
 pub struct Question {
-    pub ok: bool,
     pub object: u32,
     pub question: u32,
     pub value: u32,
 }
 
-// The byte at a place, 0 past the end.
-fn count_at(s: &[u8], at: usize) -> usize
-    ensures { (result ≡ get_or s.now at 0) × (result < 256) }
-{
-    match line_shape::byte_at(s, at) {
-        line_shape::NextByte::Byte(count, _) => count as usize,
-        line_shape::NextByte::NoByte => 0,
-    }
-}
-
 // `10`: the group size, the own station, the capacity, and how many kinds follow.
-pub fn read_opening(s: &[u8]) -> Opening
-    ensures { result ≡ opening_read s.now }
+pub fn read_opening(s: &[u8]) -> Option<Opening>
+    ensures { result ≡ (if is_opening s.now then Some (opening_read s.now) else None) }
 {
-    if line_shape::has_shape(s, OPENING, KINDS_PLACE + count_at(s, KIND_COUNT_PLACE)) {
-        let head = line_shape::head_of(s, &OPENING_WIDTHS);
-        Opening {
-            ok: true,
-            stations: head[1],
-            own: head[2],
-            capacity: head[3],
-            count: head[4],
-        }
-    } else {
-        Opening {
-            ok: false,
-            stations: 0,
-            own: 0,
-            capacity: 0,
-            count: 0,
-        }
+    let kinds = usize::from(*s.get(KIND_COUNT_PLACE)?);
+    if !line_shape::has_shape(s, OPENING, KINDS_PLACE + kinds) {
+        return None;
     }
+    let [_, stations, own, capacity, count, ..] = line_shape::head_of(s, &OPENING_WIDTHS);
+    Some(Opening {
+        stations,
+        own,
+        capacity,
+        count,
+    })
 }
 
 // `20`: an operation with its vector, which has as many entries as the line itself says.
-pub fn read_operation(s: &[u8]) -> Operation
-    ensures { result ≡ operation_read s.now }
+pub fn read_operation(s: &[u8]) -> Option<Operation>
+    ensures { result ≡ (if is_operation s.now then Some (operation_read s.now) else None) }
 {
-    let f = line_shape::read_fields(s, OPERATION, &OPERATION_WIDTHS, count_at(s, STATIONS_PLACE));
-    let head = f.head;
-    let vector = f.vector;
-    Operation {
-        ok: f.ok,
-        stations: head[1],
-        sender: head[2],
-        object: head[3],
-        code: head[4],
-        value: head[5],
-        vector,
-    }
+    let entries = usize::from(*s.get(STATIONS_PLACE)?);
+    let fields = line_shape::read_fields(s, OPERATION, &OPERATION_WIDTHS, entries)?;
+    let [_, stations, sender, object, code, value] = fields.head;
+    Some(Operation {
+        stations,
+        sender,
+        object,
+        code,
+        value,
+        vector: fields.vector,
+    })
 }
 
 // `21`: a local operation.
-pub fn read_issue(s: &[u8]) -> Issue
-    ensures { result ≡ issue_read s.now }
+pub fn read_issue(s: &[u8]) -> Option<Issue>
+    ensures { result ≡ (if is_issue s.now then Some (issue_read s.now) else None) }
 {
-    let f = line_shape::read_short(s, ISSUE);
-    let head = f.head;
-    Issue {
-        ok: f.ok,
-        object: head[1],
-        code: head[2],
-        value: head[3],
-    }
+    let [_, object, code, value, ..] = line_shape::read_short(s, ISSUE)?.head;
+    Some(Issue {
+        object,
+        code,
+        value,
+    })
 }
 
 // `30`: the limit of a settling call.
-pub fn read_settling(s: &[u8]) -> Settling
-    ensures { result ≡ settling_read s.now }
+pub fn read_settling(s: &[u8]) -> Option<Settling>
+    ensures { result ≡ (if is_settling s.now then Some (settling_read s.now) else None) }
 {
-    let f = line_shape::read_fields(s, SETTLING, &SETTLING_WIDTHS, 0);
-    let head = f.head;
-    Settling {
-        ok: f.ok,
-        limit: head[1],
-    }
+    let [_, limit, ..] = line_shape::read_fields(s, SETTLING, &SETTLING_WIDTHS, 0)?.head;
+    Some(Settling { limit })
 }
 
 // `40`: a question about an object.
-pub fn read_question(s: &[u8]) -> Question
-    ensures { result ≡ question_read s.now }
+pub fn read_question(s: &[u8]) -> Option<Question>
+    ensures { result ≡ (if is_question s.now then Some (question_read s.now) else None) }
 {
-    let f = line_shape::read_short(s, QUESTION);
-    let head = f.head;
-    Question {
-        ok: f.ok,
-        object: head[1],
-        question: head[2],
-        value: head[3],
-    }
+    let [_, object, question, value, ..] = line_shape::read_short(s, QUESTION)?.head;
+    Some(Question {
+        object,
+        question,
+        value,
+    })
 }
 
 // Whether the line asks for the saved form: it has no fields but its type.
@@ -231,14 +200,12 @@ pub fn read_printing(s: &[u8]) -> bool
 // D.
 #[derive(Clone, Copy)]
 pub struct Clock {
-    pub ok: bool,
     pub vector: [u32; meaning::MOST_STATIONS],
 }
 
 // k and L[k].
 #[derive(Clone, Copy)]
 pub struct LastVector {
-    pub ok: bool,
     pub station: u32,
     pub vector: [u32; meaning::MOST_STATIONS],
 }
@@ -246,7 +213,6 @@ pub struct LastVector {
 // The two words of a total in two's complement.
 #[derive(Clone, Copy)]
 pub struct Total {
-    pub ok: bool,
     pub object: u32,
     pub high: u32,
     pub low: u32,
@@ -255,7 +221,6 @@ pub struct Total {
 // The settled byte is handed on as it stands: 01 or 00 is the loader's to ask.
 #[derive(Clone, Copy)]
 pub struct Row {
-    pub ok: bool,
     pub object: u32,
     pub code: u32,
     pub settled: u32,
@@ -266,73 +231,57 @@ pub struct Row {
 
 #[derive(Clone, Copy)]
 pub struct Closing {
-    pub ok: bool,
     pub rows: u32,
 }
 
 // `50`: D, of so many stations.
-pub fn read_clock(s: &[u8], stations: usize) -> Clock
-    ensures { result ≡ clock_read stations s.now }
+pub fn read_clock(s: &[u8], stations: usize) -> Option<Clock>
+    ensures { result ≡ (if is_clock stations s.now then Some (clock_read stations s.now) else None) }
 {
-    let f = line_shape::read_fields(s, CLOCK, &CLOCK_WIDTHS, stations);
-    let vector = f.vector;
-    Clock { ok: f.ok, vector }
+    let vector = line_shape::read_fields(s, CLOCK, &CLOCK_WIDTHS, stations)?.vector;
+    Some(Clock { vector })
 }
 
 // `51`: a station's last vector, of so many entries.
-pub fn read_last(s: &[u8], stations: usize) -> LastVector
-    ensures { result ≡ last_read stations s.now }
+pub fn read_last(s: &[u8], stations: usize) -> Option<LastVector>
+    ensures { result ≡ (if is_last stations s.now then Some (last_read stations s.now) else None) }
 {
-    let f = line_shape::read_fields(s, LAST_VECTOR, &LAST_VECTOR_WIDTHS, stations);
-    let head = f.head;
-    let vector = f.vector;
-    LastVector {
-        ok: f.ok,
-        station: head[1],
-        vector,
-    }
+    let fields = line_shape::read_fields(s, LAST_VECTOR, &LAST_VECTOR_WIDTHS, stations)?;
+    let [_, station, ..] = fields.head;
+    Some(LastVector {
+        station,
+        vector: fields.vector,
+    })
 }
 
 // `52`: a counter's total, as two words.
-pub fn read_total(s: &[u8]) -> Total
-    ensures { result ≡ total_read s.now }
+pub fn read_total(s: &[u8]) -> Option<Total>
+    ensures { result ≡ (if is_total s.now then Some (total_read s.now) else None) }
 {
-    let f = line_shape::read_fields(s, TOTAL, &TOTAL_WIDTHS, 0);
-    let head = f.head;
-    Total {
-        ok: f.ok,
-        object: head[1],
-        high: head[2],
-        low: head[3],
-    }
+    let [_, object, high, low, ..] = line_shape::read_fields(s, TOTAL, &TOTAL_WIDTHS, 0)?.head;
+    Some(Total { object, high, low })
 }
 
 // `53`: a row, with a vector of so many entries.
-pub fn read_row(s: &[u8], stations: usize) -> Row
-    ensures { result ≡ row_read stations s.now }
+pub fn read_row(s: &[u8], stations: usize) -> Option<Row>
+    ensures { result ≡ (if is_row stations s.now then Some (row_read stations s.now) else None) }
 {
-    let f = line_shape::read_fields(s, ROW, &ROW_WIDTHS, stations);
-    let head = f.head;
-    let vector = f.vector;
-    Row {
-        ok: f.ok,
-        object: head[1],
-        code: head[2],
-        settled: head[3],
-        sender: head[4],
-        value: head[5],
-        vector,
-    }
+    let fields = line_shape::read_fields(s, ROW, &ROW_WIDTHS, stations)?;
+    let [_, object, code, settled, sender, value] = fields.head;
+    Some(Row {
+        object,
+        code,
+        settled,
+        sender,
+        value,
+        vector: fields.vector,
+    })
 }
 
 // `5f`: how many rows the form has.
-pub fn read_closing(s: &[u8]) -> Closing
-    ensures { result ≡ closing_read s.now }
+pub fn read_closing(s: &[u8]) -> Option<Closing>
+    ensures { result ≡ (if is_closing s.now then Some (closing_read s.now) else None) }
 {
-    let f = line_shape::read_fields(s, CLOSING, &CLOSING_WIDTHS, 0);
-    let head = f.head;
-    Closing {
-        ok: f.ok,
-        rows: head[1],
-    }
+    let [_, rows, ..] = line_shape::read_fields(s, CLOSING, &CLOSING_WIDTHS, 0)?.head;
+    Some(Closing { rows })
 }

@@ -1,79 +1,131 @@
--- What one reader finds in a line of its type, two bytes and four: the ways through byte_of and found_fields, and why that is what its fields are.
+-- What one reader finds in a line of its type, two bytes and four, and why that is what its fields are.
 use Prim.Native.Nat.{ℕ, suc, ◌+◌, ◌≤◌, ◌<◌}
-use mathlib.Core.Path.{◌≡◌, refl, sym, ◌∙◌}
-use mathlib.Core.Bool.{Bool, true, false, not}
+use mathlib.Core.Path.{◌≡◌, refl, sym, ap, ◌∙◌}
+use mathlib.Core.Bool.{Bool, true, false, ◌&&◌}
 use mathlib.Core.List.{List, [], ◌∷◌}
 use native.Mathlib.Omega.{arith}
-use borrow.Author.Tests.{eq-eqb, ne_eqb, le-leb, lt-leb, leb-true, leb-false}
+use borrow.Author.Tests.{eq-eqb, eqb-false, eqb-true, ne_eqb, leb-true, leb-false}
+use denote.Bor.{Bor}
 use lib.Dec.{eqb, leb}
 use lib.ListN.{length, drop, get_or, replicate, take}
-use denote.Ref.{Bor}
+use Rattle.std.proofs.Common.{Option, Some, None}
+use Rattle.std.specs.Option.{option_and_then}
 use Rattle.line_hex.specs.Choice.{pick}
 use Rattle.line_hex.specs.Numbers.{number_from, number_of}
 use Rattle.line_shape.specs.Places.{at_end, byte_at, four_at}
-use Rattle.line_shape.specs.Readers.{byte_of, found_fields, place_after, read_on, short_widths}
-use Rattle.line_shape.specs.Reading.{entries, fields_read, has_shape, padded, starts_with, unread}
+use Rattle.line_shape.specs.Readers.{place_after, read_on, short_widths}
+use Rattle.line_shape.specs.Reading.{entries, fields_read, has_shape, is_shaped, padded, starts_with}
 use Rattle.line_shape.specs.Shapes.{length_of, read}
 use Rattle.line_shape.specs.declared.Fields.{Fields}
-use Rattle.line_shape.specs.declared.NextByte.{NextByte}
-use Rattle.line_shape.specs.declared.NextByte.TheVariants.{Byte, NoByte}
-use Rattle.line_shape.specs.declared.NextFour.{NextFour}
-use Rattle.line_shape.specs.declared.NextFour.TheVariants.{Four, NoFour}
 use Rattle.line_shape.specs.declared.Reader.{Reader}
-use Rattle.line_shape.proofs.Places.{after_enough, byte_there}
-use Rattle.line_shape.proofs.Taking.{passed, refused}
+use Rattle.line_shape.proofs.Places.{byte_given, four_given, moves, no_byte_given, no_four_given}
+use Rattle.line_shape.proofs.Taking.{all_taken, none_taken, Taken}
 use Rattle.meaning.specs.Table.{greatest_size}
 
-pub byte_found : (p : NextByte) (b next r : ℕ) → p ≡ Byte b next → r ≡ b → r ≡ byte_of p
-unfolding byte_of
-byte_found p b next r e f = rw e f
+one_byte : (a : ℕ) → number_of (a ∷ []) ≡ a
+unfolding number_from
+one_byte a = omega arith
 
-pub no_byte_found : (p : NextByte) → p ≡ NoByte → 0 ≡ byte_of p
-unfolding byte_of
-no_byte_found p e = rw e refl
+module _ (kind : ℕ) where
+  other_size : (s : List ℕ) → (length s ≡ 7 → ⊥) → is_shaped kind short_widths 0 s ≡ false
+  unfolding is_shaped has_shape length_of
+  other_size s h = rw (ne_eqb (length s) 7 h) refl
 
-module _ (kind : ℕ) (first second third : NextByte) (number : NextFour) (ended : Bool) where
-  unended : (n : NextFour) → unread ≡ found_fields kind first second third n false
-  unfolding found_fields
-  unended (Four value place) = refl
-  unended NoFour = refl
-
-  pub found_unended : (r : Fields) → r ≡ unread → not ended ≡ true → r ≡ found_fields kind first second third number ended
-  found_unended r none h = none ∙ rw (refused ended h) (unended number)
-
-  other : (n : NextFour) (t : Bool) → eqb (byte_of first) kind ≡ false → unread ≡ found_fields kind first second third n t
-  unfolding found_fields
-  other (Four value place) true h = rw h refl
-  other (Four value place) false h = refl
-  other NoFour t h = refl
-
-  pub found_other : (r : Fields) (b k : ℕ) → r ≡ unread → b ≡ byte_of first → k ≡ kind → (b ≡ k → ⊥) → r ≡ found_fields kind first second third number ended
-  found_other r b k none e f h = none ∙ other number ended (ne_eqb (byte_of first) kind (λ j. h (e ∙ j ∙ sym f)))
-
-  pub found_no_four : (r : Fields) → r ≡ unread → number ≡ NoFour → r ≡ found_fields kind first second third number ended
-  unfolding found_fields
-  found_no_four r none e = none ∙ rw e refl
-
-  pub found_there : (b k x y z value place : ℕ) → not ended ≡ false → b ≡ byte_of first → k ≡ kind → b ≡ k → number ≡ Four value place → x ≡ byte_of first → y ≡ byte_of second → z ≡ byte_of third
-      → ◌≡◌ {A = Fields} (record { ok = true; head = x ∷ y ∷ z ∷ value ∷ 0 ∷ 0 ∷ []; vector = replicate greatest_size 0 }) (found_fields kind first second third number ended)
-  unfolding found_fields padded
-  found_there b k x y z value place h e f g j ex ey ez = rw (j, passed ended h, eq-eqb (byte_of first) kind (sym e ∙ g ∙ f), ex, ey, ez) refl
-
-module _ (s : List ℕ) where
-  -- a reader that lacks so many bytes lacks one less where it has read on by a byte
-  still_short : (at lack : ℕ) → 0 < lack → length s < at + suc lack → length s < place_after 1 s at + lack
-  unfolding place_after
-  still_short at lack some h = go (leb (at + 1) (length s)) refl
+  other_type : (s : List ℕ) → 0 < length s → (get_or s 0 0 ≡ kind → ⊥) → is_shaped kind short_widths 0 s ≡ false
+  unfolding is_shaped has_shape length_of starts_with
+  other_type [] some h = absurd (omega arith)
+  other_type (b ∷ s) some h = rw (ne_eqb b kind h) (go (eqb (suc (length s)) 7))
     where
-      go : (t : Bool) → leb (at + 1) (length s) ≡ t → length s < pick t (at + 1) at + lack
-      go true e = omega arith
-      go false e = omega (arith, leb-false (at + 1) (length s) e)
+      go : (t : Bool) → t && false ≡ false
+      go true = refl
+      go false = refl
 
-  short_four : (at : ℕ) → length s < at + 4 → four_at s at ≡ NoFour
-  unfolding four_at
-  short_four at h = rw (lt-leb (at + 4) (length s) h) refl
+  right : (s : List ℕ) → length s ≡ 7 → get_or s 0 0 ≡ kind → is_shaped kind short_widths 0 s ≡ true
+  unfolding is_shaped has_shape length_of starts_with
+  right [] h e = absurd (omega arith)
+  right (b ∷ s) h e = rw (eq-eqb (suc (length s)) 7 h, eq-eqb b kind e) refl
 
-  -- where a reader stands behind the first byte, the second, the third, and the four
+  -- the fields of seven bytes, each at its place
+  fields_there : (s : List ℕ) → length s ≡ 7 → get_or s 0 0 ≡ kind
+      → ◌≡◌ {A = Fields} (record { head = get_or s 0 0 ∷ get_or s 1 0 ∷ get_or s 2 0 ∷ number_of (take 4 (drop 3 s)) ∷ 0 ∷ 0 ∷ []; vector = replicate greatest_size 0 }) (fields_read kind short_widths 0 s)
+  unfolding fields_read read entries padded length_of
+  fields_there [] h e = absurd (omega arith)
+  fields_there (a ∷ []) h e = absurd (omega arith)
+  fields_there (a ∷ b ∷ []) h e = absurd (omega arith)
+  fields_there (a ∷ b ∷ c ∷ rest) h e = rw (right (a ∷ b ∷ c ∷ rest) h e, one_byte a, one_byte b, one_byte c) refl
+
+  module _ (s : Bor (List ℕ)) where
+    abbrev at : ℕ → Reader
+    at n = record { src = s; at = n }
+
+    short : (n : ℕ) → n < 7 → length s.now ≤ n → Taken s.now short_widths kind 0 None
+    short n k h = none_taken s.now short_widths kind 0 (other_size s.now (λ e. omega arith))
+
+    on : (n width : ℕ) (c d : Reader) → c ≡ at n → n + width ≤ length s.now → d ≡ read_on width c → d ≡ at (n + width)
+    on n width c d e h g = g ∙ ap (read_on width) e ∙ sym (moves width (at n) h)
+
+    byte_on : (n b : ℕ) (c : Reader) → c ≡ at n → Some b ≡ byte_at c.src.now c.at → (n < length s.now) × (b ≡ get_or s.now n 0)
+    byte_on n b c e f = byte_given s.now n b (f ∙ ap (λ (r : Reader). byte_at r.src.now r.at) e)
+
+    none_on : (n : ℕ) (c : Reader) → c ≡ at n → n < 7 → None ≡ byte_at c.src.now c.at → Taken s.now short_widths kind 0 None
+    none_on n c e k f = short n k (no_byte_given s.now n (f ∙ ap (λ (r : Reader). byte_at r.src.now r.at) e))
+
+    pub none_first : None ≡ byte_at s.now 0 → Taken s.now short_widths kind 0 None
+    none_first e = none_on 0 (at 0) refl (omega arith) e
+
+    module _ (first : ℕ) (e₁ : Some first ≡ byte_at s.now 0) (c₁ : Reader) (g₁ : c₁ ≡ read_on 1 (at 0)) where
+      stands_first : c₁ ≡ at 1
+      stands_first = on 0 1 (at 0) c₁ refl (omega (arith, (byte_given s.now 0 first e₁).0)) g₁
+
+      pub none_second : None ≡ byte_at c₁.src.now c₁.at → Taken s.now short_widths kind 0 None
+      none_second e = none_on 1 c₁ stands_first (omega arith) e
+
+      module _ (second : ℕ) (e₂ : Some second ≡ byte_at c₁.src.now c₁.at) (c₂ : Reader) (g₂ : c₂ ≡ read_on 1 c₁) where
+        stands_second : c₂ ≡ at 2
+        stands_second = on 1 1 c₁ c₂ stands_first (omega (arith, (byte_on 1 second c₁ stands_first e₂).0)) g₂
+
+        pub none_third : None ≡ byte_at c₂.src.now c₂.at → Taken s.now short_widths kind 0 None
+        none_third e = none_on 2 c₂ stands_second (omega arith) e
+
+        module _ (third : ℕ) (e₃ : Some third ≡ byte_at c₂.src.now c₂.at) (c₃ : Reader) (g₃ : c₃ ≡ read_on 1 c₂) where
+          stands_third : c₃ ≡ at 3
+          stands_third = on 2 1 c₂ c₃ stands_second (omega (arith, (byte_on 2 third c₂ stands_second e₃).0)) g₃
+
+          pub none_value : None ≡ four_at c₃.src.now c₃.at → Taken s.now short_widths kind 0 None
+          none_value e = let few : length s.now < 3 + 4 = no_four_given s.now 3 (e ∙ ap (λ (r : Reader). four_at r.src.now r.at) stands_third) in short 6 (omega arith) (omega arith)
+
+          module _ (value : ℕ) (e₄ : Some value ≡ four_at c₃.src.now c₃.at) (c₄ : Reader) (g₄ : c₄ ≡ read_on 4 c₃) where
+            given : (3 + 4 ≤ length s.now) × (value ≡ number_of (take 4 (drop 3 s.now)))
+            given = four_given s.now 3 value (e₄ ∙ ap (λ (r : Reader). four_at r.src.now r.at) stands_third)
+
+            stands_behind : c₄ ≡ at 7
+            stands_behind = on 3 4 c₃ c₄ stands_third given.0 g₄
+
+            first_is : first ≡ get_or s.now 0 0
+            first_is = (byte_given s.now 0 first e₁).1
+
+            pub not_its_type : (first ≡ kind → ⊥) → Taken s.now short_widths kind 0 None
+            not_its_type h = none_taken s.now short_widths kind 0 (other_type s.now (omega (arith, given.0)) (λ e. h (first_is ∙ e)))
+
+            past : (t : Bool) → t ≡ at_end c₄.src.now c₄.at → leb (length s.now) 7 ≡ t
+            unfolding at_end
+            past t e = sym (e ∙ ap (λ (r : Reader). leb (length r.src.now) r.at) stands_behind)
+
+            pub not_ended : false ≡ at_end c₄.src.now c₄.at → Taken s.now short_widths kind 0 None
+            not_ended e = none_taken s.now short_widths kind 0 (other_size s.now (λ k. omega (arith, leb-false (length s.now) 7 (past false e))))
+
+            pub short_taken : first ≡ kind → true ≡ at_end c₄.src.now c₄.at → (x y z : ℕ) → x ≡ first → y ≡ second → z ≡ third
+                → Taken s.now short_widths kind 0 (Some (record { head = x ∷ y ∷ z ∷ value ∷ 0 ∷ 0 ∷ []; vector = replicate greatest_size 0 }))
+            short_taken t e x y z ex ey ez =
+                let size : length s.now ≡ 7 = omega (arith, given.0, leb-true (length s.now) 7 (past true e)) in
+                let type : get_or s.now 0 0 ≡ kind = sym first_is ∙ t in
+                let e1 : x ≡ get_or s.now 0 0 = ex ∙ first_is in
+                let e2 : y ≡ get_or s.now 1 0 = ey ∙ (byte_on 1 second c₁ stands_first e₂).1 in
+                let e3 : z ≡ get_or s.now 2 0 = ez ∙ (byte_on 2 third c₂ stands_second e₃).1 in
+                all_taken s.now short_widths kind 0 _ (right s.now size type) (rw (e1, e2, e3, given.1) (fields_there s.now size type))
+
+-- what a reader finds from the front of a line to its end, step by step
+module _ (s : List ℕ) where
   abbrev pub behind_first : ℕ
   behind_first = place_after 1 s 0
 
@@ -83,63 +135,56 @@ module _ (s : List ℕ) where
   abbrev pub behind_third : ℕ
   behind_third = place_after 1 s behind_second
 
-  abbrev pub behind_four : ℕ
-  behind_four = place_after 4 s behind_third
+  abbrev pub behind_value : ℕ
+  behind_value = place_after 4 s behind_third
 
-one_byte : (a : ℕ) → number_of (a ∷ []) ≡ a
-unfolding number_from
-one_byte a = omega arith
+-- the fields, where the type is in front and nothing behind them
+abbrev pub found_fields : ℕ → ℕ → ℕ → ℕ → ℕ → Bool → Option Fields
+found_fields kind first second third value ended =
+    pick (eqb first kind && ended)
+    (Some (record { head = first ∷ second ∷ third ∷ value ∷ 0 ∷ 0 ∷ []; vector = replicate greatest_size 0 }))
+    None
 
-whole_line : (s : List ℕ) → 7 ≤ length s → eqb (length s) 7 ≡ leb (length s) 7
-whole_line s h = go (leb (length s) 7) refl
+abbrev pub found : ℕ → List ℕ → Option Fields
+found kind s =
+    option_and_then
+    (λ first. option_and_then
+    (λ second. option_and_then
+    (λ third. option_and_then
+    (λ value. found_fields kind first second third value (at_end s (behind_value s)))
+    (four_at s (behind_third s)))
+    (byte_at s (behind_second s)))
+    (byte_at s (behind_first s)))
+    (byte_at s 0)
+
+-- and that is the line taken apart
+pub short_finds : (kind : ℕ) (s : List ℕ) → Taken s short_widths kind 0 (found kind s)
+short_finds kind s = at_first (byte_at s 0) refl
   where
-    go : (t : Bool) → leb (length s) 7 ≡ t → eqb (length s) 7 ≡ t
-    go true e = eq-eqb (length s) 7 (omega (arith, leb-true (length s) 7 e))
-    go false e = ne_eqb (length s) 7 (λ k. omega (arith, leb-false (length s) 7 e))
+    line : Bor (List ℕ)
+    line = record { ref_ptr = (0, 0); now = s }
 
-module _ (kind : ℕ) where
-  abbrev pub Finds : List ℕ → Type 0
-  Finds s = found_fields kind (byte_at s 0) (byte_at s (behind_first s)) (byte_at s (behind_second s)) (four_at s (behind_third s)) (at_end s (behind_four s)) ≡ fields_read kind short_widths 0 s
+    reader : ℕ → Reader
+    reader n = record { src = line; at = n }
 
-  finds_short : (s : List ℕ) → length s < 7 → Finds s
-  unfolding found_fields fields_read has_shape length_of
-  finds_short s h =
-      let none : four_at s (behind_third s) ≡ NoFour = short_four s (behind_third s) (still_short s (behind_second s) 4 (omega arith) (still_short s (behind_first s) 5 (omega arith) (still_short s 0 6 (omega arith) (omega arith)))) in
-      rw (none, ne_eqb (length s) 7 (λ k. omega arith)) refl
+    ends : (first second third value : ℕ) → Some first ≡ byte_at s 0 → Some second ≡ byte_at s (behind_first s) → Some third ≡ byte_at s (behind_second s) → Some value ≡ four_at s (behind_third s)
+        → (t : Bool) → eqb first kind ≡ t → (u : Bool) → at_end s (behind_value s) ≡ u → Taken s short_widths kind 0 (pick (t && u) (Some (record { head = first ∷ second ∷ third ∷ value ∷ 0 ∷ 0 ∷ []; vector = replicate greatest_size 0 })) None)
+    ends first second third value a b c d true e true f = short_taken kind line first a (reader (behind_first s)) refl second b (reader (behind_second s)) refl third c (reader (behind_third s)) refl value d (reader (behind_value s)) refl (eqb-true first kind e) (sym f) first second third refl refl refl
+    ends first second third value a b c d true e false f = not_ended kind line first a (reader (behind_first s)) refl second b (reader (behind_second s)) refl third c (reader (behind_third s)) refl value d (reader (behind_value s)) refl (sym f)
+    ends first second third value a b c d false e u f = not_its_type kind line first a (reader (behind_first s)) refl second b (reader (behind_second s)) refl third c (reader (behind_third s)) refl value d (reader (behind_value s)) refl (eqb-false first kind e)
 
-  -- the fields of seven bytes or more, each at its place
-  fields_long : (s : List ℕ) → 7 ≤ length s
-      → found_fields kind (Byte (get_or s 0 0) 1) (Byte (get_or s 1 0) 2) (Byte (get_or s 2 0) 3) (Four (number_of (take 4 (drop 3 s))) 7) (leb (length s) 7) ≡ fields_read kind short_widths 0 s
-  unfolding found_fields fields_read has_shape starts_with length_of read entries byte_of padded
-  fields_long [] h = absurd (omega arith)
-  fields_long (a ∷ []) h = absurd (omega arith)
-  fields_long (a ∷ b ∷ []) h = absurd (omega arith)
-  fields_long (a ∷ b ∷ c ∷ rest) h = rw (whole_line (a ∷ b ∷ c ∷ rest) h, one_byte a, one_byte b, one_byte c) refl
+    at_value : (first second third : ℕ) → Some first ≡ byte_at s 0 → Some second ≡ byte_at s (behind_first s) → Some third ≡ byte_at s (behind_second s) → (o : Option ℕ) → four_at s (behind_third s) ≡ o → Taken s short_widths kind 0 (option_and_then (λ value. found_fields kind first second third value (at_end s (behind_value s))) o)
+    at_value first second third a b c None e = none_value kind line first a (reader (behind_first s)) refl second b (reader (behind_second s)) refl third c (reader (behind_third s)) refl (sym e)
+    at_value first second third a b c (Some value) e = ends first second third value a b c (sym e) (eqb first kind) refl (at_end s (behind_value s)) refl
 
-  finds_long : (s : List ℕ) → 7 ≤ length s → Finds s
-  unfolding four_at at_end
-  finds_long s h =
-      let e₁ : behind_first s ≡ 1 = sym (after_enough s 0 1 (omega arith) (omega arith)) in
-      let e₂ : place_after 1 s 1 ≡ 2 = sym (after_enough s 1 1 (omega arith) (omega arith)) in
-      let e₃ : place_after 1 s 2 ≡ 3 = sym (after_enough s 2 1 (omega arith) (omega arith)) in
-      let e₄ : place_after 4 s 3 ≡ 7 = sym (after_enough s 3 4 (omega arith) (omega arith)) in
-      let four : four_at s 3 ≡ Four (number_of (take 4 (drop 3 s))) 7 = rw (le-leb 7 (length s) h) refl in
-      rw (e₁, e₂, e₃, e₄, ← byte_there s 0 (omega arith), ← byte_there s 1 (omega arith), ← byte_there s 2 (omega arith), four) (fields_long s h)
+    at_third : (first second : ℕ) → Some first ≡ byte_at s 0 → Some second ≡ byte_at s (behind_first s) → (o : Option ℕ) → byte_at s (behind_second s) ≡ o → Taken s short_widths kind 0 (option_and_then (λ third. option_and_then (λ value. found_fields kind first second third value (at_end s (behind_value s))) (four_at s (behind_third s))) o)
+    at_third first second a b None e = none_third kind line first a (reader (behind_first s)) refl second b (reader (behind_second s)) refl (sym e)
+    at_third first second a b (Some third) e = at_value first second third a b (sym e) (four_at s (behind_third s)) refl
 
-  pub short_finds : (s : List ℕ) → Finds s
-  short_finds s = go (leb 7 (length s)) refl
-    where
-      go : (t : Bool) → leb 7 (length s) ≡ t → Finds s
-      go true e = finds_long s (leb-true 7 (length s) e)
-      go false e = finds_short s (leb-false 7 (length s) e)
+    at_second : (first : ℕ) → Some first ≡ byte_at s 0 → (o : Option ℕ) → byte_at s (behind_first s) ≡ o → Taken s short_widths kind 0 (option_and_then (λ second. option_and_then (λ third. option_and_then (λ value. found_fields kind first second third value (at_end s (behind_value s))) (four_at s (behind_third s))) (byte_at s (behind_second s))) o)
+    at_second first a None e = none_second kind line first a (reader (behind_first s)) refl (sym e)
+    at_second first a (Some second) e = at_third first second a (sym e) (byte_at s (behind_second s)) refl
 
--- the same, as the calls say it: each tells what it found and the reader that came back
-pub short_told : (kind : ℕ) (s : Bor (List ℕ)) (c₁ c₂ c₃ c₄ : Reader) (first second third : NextByte) (number : NextFour) (ended : Bool) (r : Fields)
-    → (first ≡ byte_at s.now 0) × (c₁ ≡ read_on 1 (record { src = s; at = 0 }))
-    → (second ≡ byte_at c₁.src.now c₁.at) × (c₂ ≡ read_on 1 c₁)
-    → (third ≡ byte_at c₂.src.now c₂.at) × (c₃ ≡ read_on 1 c₂)
-    → (number ≡ four_at c₃.src.now c₃.at) × (c₄ ≡ read_on 4 c₃)
-    → ended ≡ at_end c₄.src.now c₄.at
-    → r ≡ found_fields kind first second third number ended
-    → r ≡ fields_read kind short_widths 0 s.now
-short_told kind s c₁ c₂ c₃ c₄ first second third number ended r (e₁, g₁) (e₂, g₂) (e₃, g₃) (e₄, g₄) e₅ e = e ∙ rw (e₅, g₄, e₄, g₃, e₃, g₂, e₂, g₁, e₁) (short_finds kind s.now)
+    at_first : (o : Option ℕ) → byte_at s 0 ≡ o → Taken s short_widths kind 0 (option_and_then (λ first. option_and_then (λ second. option_and_then (λ third. option_and_then (λ value. found_fields kind first second third value (at_end s (behind_value s))) (four_at s (behind_third s))) (byte_at s (behind_second s))) (byte_at s (behind_first s))) o)
+    at_first None e = none_first kind line (sym e)
+    at_first (Some first) e = at_second first (sym e) (byte_at s (behind_first s)) refl

@@ -1,98 +1,77 @@
--- The ways through byte_at, four_at and at_end, and what an answer of theirs says.
-use Prim.Native.Nat.{ℕ, suc, ◌+◌, ◌-◌, ◌*◌, ◌≤◌, ◌<◌}
-use mathlib.Core.Path.{◌≡◌, refl}
-use mathlib.Core.Bool.{Bool, true, false}
-use mathlib.Core.List.{List}
-use native.Mathlib.Numerals.{add-one, add-two, add-three}
-use native.Mathlib.Omega.{arith}
-use borrow.Author.Tests.{lt-ltb, le-ltb, le-leb, leb-false, lt-leb, ltb-false, ltb-true}
+-- What four bytes at a place say, and where a reader stands once it has read on.
+use Rattle.std.proofs.Common.{◌≡◌, ℕ, ◌+◌, ◌-◌, ◌≤◌, ◌<◌, Bool, true, false, List, length, take, drop, Some, None, refl, ap, arith}
+use borrow.Author.Tests.{le-leb, lt-leb, ltb-false, ltb-true, leb-false, leb-true}
 use lib.Dec.{leb, ltb}
-use lib.ListN.{length, get_or, take, drop}
-use lib.Seq.{drop-cons}
+use lib.ListN.{get_or}
+use Rattle.std.proofs.lemmas.List.{length-drop, take_all}
+use Rattle.std.proofs.lemmas.Option.{none-some}
+use Rattle.std.specs.List.{slice_range}
 use Rattle.line_hex.specs.Choice.{pick}
-use Rattle.line_hex.specs.Numbers.{number_from, number_of}
+use Rattle.line_hex.specs.Numbers.{number_of}
 use Rattle.line_shape.specs.Places.{byte_at, four_at}
-use Rattle.line_shape.specs.Readers.{place_after}
-use Rattle.line_shape.specs.declared.NextByte.TheVariants.{Byte, NoByte}
-use Rattle.line_shape.specs.declared.NextFour.TheVariants.{Four, NoFour}
+use Rattle.line_shape.specs.Readers.{place_after, read_on}
+use Rattle.line_shape.specs.declared.Reader.{Reader}
 
 module _ (s : List ℕ) (at : ℕ) where
-  pub byte_there : at < length s → Byte (get_or s at 0) (at + 1) ≡ byte_at s at
-  unfolding byte_at
-  byte_there h = rw (lt-ltb at (length s) h) refl
-
-  pub byte_past : length s ≤ at → NoByte ≡ byte_at s at
-  unfolding byte_at
-  byte_past h = rw (le-ltb at (length s) h) refl
-
-  pub four_past : length s ≤ at → NoFour ≡ four_at s at
+  pub four_few : length s < at + 4 → None ≡ four_at s at
   unfolding four_at
-  four_past h = rw (lt-leb (at + 4) (length s) (omega arith)) refl
+  four_few h = rw (lt-leb (at + 4) (length s) h) refl
 
-  pub four_few : at < length s → length s - at < 4 → NoFour ≡ four_at s at
+  pub few_left : {n : ℕ} → n + at ≡ length s → n < 4 → length s < at + 4
+  few_left e h = omega arith
+
+  pub four_there : at + 4 ≤ length s → (behind four : List ℕ) (n : ℕ) → behind ≡ slice_range s at (length s) → four ≡ slice_range behind 0 4 → n ≡ number_of four → Some n ≡ four_at s at
   unfolding four_at
-  four_few h k = rw (lt-leb (at + 4) (length s) (omega arith)) refl
+  four_there h behind four n e f g =
+      let whole : slice_range s at (length s) ≡ drop at s = take_all (length s - at) (drop at s) (omega (arith, length-drop at s)) in
+      rw (le-leb (at + 4) (length s) h, g, f, e, whole) refl
 
-  pub four_there : (a b c d : ℕ) → at < length s → 4 ≤ length s - at → a ≡ get_or s at 0 → b ≡ get_or s (at + 1) 0 → c ≡ get_or s (at + 2) 0 → d ≡ get_or s (at + 3) 0
-      → Four (((a * 256 + b) * 256 + c) * 256 + d) (at + 4) ≡ four_at s at
-  unfolding four_at number_from
-  four_there a b c d h k ea eb ec ed =
-      let whole : ((a * 256 + b) * 256 + c) * 256 + d ≡ number_of (take 4 (drop at s)) =
-      rw (drop-cons s at 0 (omega arith), drop-cons s (suc at) 0 (omega arith), drop-cons s (suc (suc at)) 0 (omega arith), drop-cons s (suc (suc (suc at))) 0 (omega arith), ea, eb, ec, ed, add-one, add-two, add-three) (omega arith) in
-      rw (le-leb (at + 4) (length s) (omega arith), whole) refl
-
--- a byte was given
-pub record ByteGiven (s : List ℕ) (at b next : ℕ) : Type 0 where
-  pub there : at < length s
-  pub byte : b ≡ get_or s at 0
-  pub on : next ≡ at + 1
-
-pub byte_given : (s : List ℕ) (at b next : ℕ) → byte_at s at ≡ Byte b next → ByteGiven s at b next
-unfolding byte_at
-byte_given s at b next = go (ltb at (length s)) refl
-  where
-    go : (t : Bool) → ltb at (length s) ≡ t → pick t (Byte (get_or s at 0) (at + 1)) NoByte ≡ Byte b next → ByteGiven s at b next
-    go true e f = record { there = ltb-true at (length s) e; byte = cc; on = cc }
-    go false e f = absurd (let z : ◌≡◌ {A = ℕ} 0 1 = cc in omega arith)
-
-pub no_byte_given : (s : List ℕ) (at : ℕ) → byte_at s at ≡ NoByte → length s ≤ at
-unfolding byte_at
-no_byte_given s at = go (ltb at (length s)) refl
-  where
-    go : (t : Bool) → ltb at (length s) ≡ t → pick t (Byte (get_or s at 0) (at + 1)) NoByte ≡ NoByte → length s ≤ at
-    go true e f = absurd (let z : ◌≡◌ {A = ℕ} 0 1 = cc in omega arith)
-    go false e f = ltb-false at (length s) e
-
--- four bytes were given
-pub record FourGiven (s : List ℕ) (at n next : ℕ) : Type 0 where
-  pub number : n ≡ number_of (take 4 (drop at s))
-  pub on : next ≡ at + 4
-
-pub four_given : (s : List ℕ) (at n next : ℕ) → four_at s at ≡ Four n next → FourGiven s at n next
-unfolding four_at
-four_given s at n next = go (leb (at + 4) (length s))
-  where
-    go : (t : Bool) → pick t (Four (number_of (take 4 (drop at s))) (at + 4)) NoFour ≡ Four n next → FourGiven s at n next
-    go true f = record { number = cc; on = cc }
-    go false f = absurd (let z : ◌≡◌ {A = ℕ} 0 1 = cc in omega arith)
-
-pub no_four_given : (s : List ℕ) (at : ℕ) → four_at s at ≡ NoFour → length s < at + 4
-unfolding four_at
-no_four_given s at = go (leb (at + 4) (length s)) refl
-  where
-    go : (t : Bool) → leb (at + 4) (length s) ≡ t → pick t (Four (number_of (take 4 (drop at s))) (at + 4)) NoFour ≡ NoFour → length s < at + 4
-    go true e f = absurd (let z : ◌≡◌ {A = ℕ} 0 1 = cc in omega arith)
-    go false e f = leb-false (at + 4) (length s) e
-
-module _ (s : List ℕ) (at width : ℕ) where
-  pub after_past : length s < at → at ≡ place_after width s at
+module _ (width : ℕ) (s : List ℕ) (at : ℕ) where
+  after_enough : at + width ≤ length s → at + width ≡ place_after width s at
   unfolding place_after
-  after_past h = rw (lt-leb (at + width) (length s) (omega arith)) refl
+  after_enough h = rw (le-leb (at + width) (length s) h) refl
 
-  pub after_few : at ≤ length s → length s - at < width → at ≡ place_after width s at
+  after_few : length s < at + width → at ≡ place_after width s at
   unfolding place_after
-  after_few h k = rw (lt-leb (at + width) (length s) (omega arith)) refl
+  after_few h = rw (lt-leb (at + width) (length s) h) refl
 
-  pub after_enough : at ≤ length s → width ≤ length s - at → at + width ≡ place_after width s at
-  unfolding place_after
-  after_enough h k = rw (le-leb (at + width) (length s) (omega arith)) refl
+module _ (width : ℕ) (reader : Reader) where
+  pub moves : reader.at + width ≤ length reader.src.now → ◌≡◌ {A = Reader} (record { src = reader.src; at = reader.at + width }) (read_on width reader)
+  moves h = ap (λ (at : ℕ). record { src = reader.src; at = at }) (after_enough width reader.src.now reader.at h)
+
+  pub stays : length reader.src.now < reader.at + width → reader ≡ read_on width reader
+  stays h = ap (λ (at : ℕ). record { src = reader.src; at = at }) (after_few width reader.src.now reader.at h)
+
+-- what was given stood there, and none is given past the end
+module _ (s : List ℕ) (at : ℕ) where
+  pub byte_given : (b : ℕ) → Some b ≡ byte_at s at → (at < length s) × (b ≡ get_or s at 0)
+  unfolding byte_at
+  byte_given b = go (ltb at (length s)) refl
+    where
+      go : (t : Bool) → ltb at (length s) ≡ t → Some b ≡ pick t (Some (get_or s at 0)) None → (at < length s) × (b ≡ get_or s at 0)
+      go true e f = (ltb-true at (length s) e, cc)
+      go false e f = let g : None ≡ Some b = cc in absurd (none-some b g)
+
+  pub no_byte_given : None ≡ byte_at s at → length s ≤ at
+  unfolding byte_at
+  no_byte_given = go (ltb at (length s)) refl
+    where
+      go : (t : Bool) → ltb at (length s) ≡ t → None ≡ pick t (Some (get_or s at 0)) None → length s ≤ at
+      go true e f = absurd (none-some (get_or s at 0) f)
+      go false e f = ltb-false at (length s) e
+
+  pub four_given : (n : ℕ) → Some n ≡ four_at s at → (at + 4 ≤ length s) × (n ≡ number_of (take 4 (drop at s)))
+  unfolding four_at
+  four_given n = go (leb (at + 4) (length s)) refl
+    where
+      go : (t : Bool) → leb (at + 4) (length s) ≡ t → Some n ≡ pick t (Some (number_of (take 4 (drop at s)))) None → (at + 4 ≤ length s) × (n ≡ number_of (take 4 (drop at s)))
+      go true e f = (leb-true (at + 4) (length s) e, cc)
+      go false e f = let g : None ≡ Some n = cc in absurd (none-some n g)
+
+  pub no_four_given : None ≡ four_at s at → length s < at + 4
+  unfolding four_at
+  no_four_given = go (leb (at + 4) (length s)) refl
+    where
+      go : (t : Bool) → leb (at + 4) (length s) ≡ t → None ≡ pick t (Some (number_of (take 4 (drop at s)))) None → length s < at + 4
+      go true e f = absurd (none-some (number_of (take 4 (drop at s))) f)
+      go false e f = leb-false (at + 4) (length s) e

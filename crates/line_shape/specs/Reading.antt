@@ -34,11 +34,16 @@ has_shape kind size bytes = eqb (length bytes) size && starts_with kind bytes
 abbrev pub size_of : List ℕ → ℕ → ℕ
 size_of widths stations = length_of widths + 4 * stations
 
-abbrev pub unread : Fields
-unread = record { ok = false; head = replicate most_fields 0; vector = replicate greatest_size 0 }
+-- a line has the shape of a type with so many entries, of which there is room for so many
+unfoldable pub is_shaped : ℕ → List ℕ → ℕ → List ℕ → Bool
+is_shaped kind widths stations bytes = leb stations greatest_size && has_shape kind (size_of widths stations) bytes
 
+abbrev pub unread : Fields
+unread = record { head = replicate most_fields 0; vector = replicate greatest_size 0 }
+
+-- its fields, zeros where it has another shape
 unfoldable pub fields_read : ℕ → List ℕ → ℕ → List ℕ → Fields
 fields_read kind widths stations bytes =
-    pick (leb stations greatest_size && has_shape kind (size_of widths stations) bytes)
-    (record { ok = true; head = padded most_fields (read widths bytes); vector = padded greatest_size (entries stations (drop (length_of widths) bytes)) })
+    pick (is_shaped kind widths stations bytes)
+    (record { head = padded most_fields (read widths bytes); vector = padded greatest_size (entries stations (drop (length_of widths) bytes)) })
     unread

@@ -1,8 +1,6 @@
-use Rattle.line_decode.proofs.Decoding.{hears_line, hears_none}
+use Rattle.std.proofs.Common.{ap, ◌∙◌}
+use Rattle.line_decode.proofs.Decoding.{heard_as}
 use Rattle.line_decode.proofs.decode_line.Goals as goal
 
-pub returns-in-Bytes : goal.returns-in-Bytes
-returns-in-Bytes c = search hears_line
-
-pub returns-in-Malformed : goal.returns-in-Malformed
-returns-in-Malformed c = search hears_none
+pub returns : goal.returns
+returns c = ap (λ n. (n, c.decode.new.into)) c.unwrap_or.ensures ∙ heard_as c.args.line.now c.args.into.now c.told-into c.decode.result c.decode.new.into c.decode.ensures

@@ -1,8 +1,6 @@
-use Rattle.line_decode.proofs.Decoding.{type_known, type_unknown}
+use Rattle.std.proofs.Common.{◌∙◌}
+use Rattle.line_decode.proofs.Decoding.{type_read}
 use Rattle.line_decode.proofs.type_of.Goals as goal
 
-pub returns-in-Is : goal.returns-in-Is
-returns-in-Is c = search type_known
-
-pub returns-in-Unknown : goal.returns-in-Unknown
-returns-in-Unknown c = search type_unknown
+pub returns : goal.returns
+returns c = c.unwrap_or.ensures ∙ type_read c.args.line.now c.line_type.result c.line_type.ensures

@@ -1,23 +1,15 @@
+use Rattle.std.proofs.Common.{arith}
 use Rattle.line_hex.proofs.Reading.{decoding_start, decoding_turn, decoding_stopped, decoding_full}
 use Rattle.line_hex.proofs.decode.Goals as goal
 
 pub loop-count-init : goal.loop-count-init
 loop-count-init c = search decoding_start
 
-pub pair_at-requires : goal.pair_at-requires
-pair_at-requires c = tt
-
 pub loop-count-preserved : goal.loop-count-preserved
-loop-count-preserved c = search decoding_turn
+loop-count-preserved c = decoding_turn _ _ _ _ c.loop-count.invariant _ (omega arith) c.in-Some.ensures
 
-pub ended_at-requires : goal.ended_at-requires
-ended_at-requires c = tt
-
-pub returns-in-Other : goal.returns-in-Other
-returns-in-Other c = search decoding_stopped
-
-pub ended_at-requires-2 : goal.ended_at-requires-2
-ended_at-requires-2 c = tt
+pub returns-in-None : goal.returns-in-None
+returns-in-None c = decoding_stopped _ _ _ _ c.loop-count.invariant _ c.in-None.ensures c.ended_at.ensures
 
 pub returns : goal.returns
-returns c = search decoding_full
+returns c = search (decoding_full, arith)

@@ -1,15 +1,9 @@
-use Rattle.line_hex.proofs.Reading.{ended_lf, ended_other, ended_early, ended_past}
-use borrow.Author.Rules.{rules}
+use Rattle.std.proofs.Common.{◌∙◌, arith}
+use Rattle.line_hex.proofs.Reading.{ended_by, ended_past}
 use Rattle.line_hex.proofs.ended_at.Goals as goal
 
-pub returns-then-line-last-eq-LF : goal.returns-then-line-last-eq-LF
-returns-then-line-last-eq-LF c = ended_lf c.args.line.now c.args.at c.args.count (search rules) (search rules) (search rules)
+pub returns-in_err-rest : goal.returns-in_err-rest
+returns-in_err-rest c = c.from_residual.ensures ∙ ended_past c.args.line.now c.args.at c.args.count (grind arith)
 
-pub returns-else-line-last-eq-LF : goal.returns-else-line-last-eq-LF
-returns-else-line-last-eq-LF c = ended_other c.args.line.now c.args.at c.args.count (search rules) (search rules) (search rules)
-
-pub returns-else-last-at : goal.returns-else-last-at
-returns-else-last-at c = ended_early c.args.line.now c.args.at c.args.count (search rules)
-
-pub returns-else-at-line : goal.returns-else-at-line
-returns-else-at-line c = search ended_past
+pub returns : goal.returns
+returns c = c.then_some.ensures ∙ ended_by c.args.line.now c.args.at c.args.count _ _ _ c.eq.ensures c.in_ok-rest.ensures.lookup.0.2 c.as_slice.ensures

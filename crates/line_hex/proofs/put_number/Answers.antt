@@ -1,22 +1,9 @@
-use lib.ListN.{length-set}
-use Rattle.line_hex.proofs.Writing.{putting_start, putting_turn, putting_done}
-use native.Mathlib.Omega.{arith}
+use Rattle.std.proofs.Common.{◌≡◌, ◌∙◌, subst, arith}
+use Rattle.line_hex.proofs.Writing.{Putting, putting_turn, putting_done}
 use Rattle.line_hex.proofs.put_number.Goals as goal
 
-pub loop-left-init : goal.loop-left-init
-loop-left-init c = search (putting_start, arith)
-
-pub digit_of-requires : goal.digit_of-requires
-digit_of-requires c = tt
-
-pub digit_of-requires-in-loop-left : goal.digit_of-requires-in-loop-left
-digit_of-requires-in-loop-left c = tt
-
-pub bounds-out-to-in-loop-left : goal.bounds-out-to-in-loop-left
-bounds-out-to-in-loop-left c = simp length-set (omega arith)
-
-pub loop-left-preserved : goal.loop-left-preserved
-loop-left-preserved c = search putting_turn
+pub loop-i-preserved : goal.loop-i-preserved
+loop-i-preserved c = c.loop-i.invariant ∙ putting_turn _ _ _ _ _ _ c.loop-i-test.true (omega (arith, c.loop-i.auto.out, c.requires)) c.digit_of.ensures c.digit_of-in-loop-i.ensures
 
 pub returns : goal.returns
-returns c = search putting_done
+returns c = let none : c.loop-i.i ≡ 0 = omega arith in putting_done _ _ _ _ _ _ (subst (λ n. Putting c.args.out.now c.args.at c.args.number c.args.width c.loop-i.out n c.loop-i.rest) none c.loop-i.invariant)

@@ -12,7 +12,7 @@ pub overflow_mul-size-2 : goal.overflow_mul-size-2
 overflow_mul-size-2 c = search double_fits
 
 pub returns-then-out-size : goal.returns-then-out-size
-returns-then-out-size c = search (write_short, le_of_lt)
+returns-then-out-size c = search write_short
 
 pub put_each-end-requires : goal.put_each-end-requires
 put_each-end-requires c = search (write_room, le_of_lt)

@@ -1,9 +1,15 @@
-use mathlib.Core.Path.{◌∙◌, ap}
-use Prim.Native.Nat.{ℕ}
-use Rattle.line_read.specs.Types.{line_read, operation}
-use Rattle.line_read.specs.Named.{operation_of, operation_read}
+use Rattle.std.proofs.Common.{◌∙◌, arith}
+use Rattle.line_read.specs.Types.{is_line_of, line_read}
+use Rattle.line_read.proofs.Readers.{operation_few, operation_other, operation_there}
 use Rattle.line_read.proofs.read_operation.Goals as goal
 
+pub returns-in_err-get : goal.returns-in_err-get
+returns-in_err-get c = c.from_residual.ensures ∙ operation_few c.args.s.now (grind arith)
+
+pub returns-in_err-fields : goal.returns-in_err-fields
+unfolding line_read is_line_of
+returns-in_err-fields c = c.from_residual-in_err-fields.ensures ∙ operation_other c.args.s.now _ _ (c.in_ok-get.ensures.lookup.3.1 0) c.from-entries.ensures c.in_err-fields.ensures
+
 pub returns : goal.returns
-unfolding operation_read line_read
-returns c = ap operation_of (c.read_fields-f.ensures ∙ ap (λ (n : ℕ). line_read operation n c.args.s.now) c.count_at.ensures.0)
+unfolding line_read is_line_of
+returns c = operation_there c.args.s.now _ _ (c.in_ok-get.ensures.lookup.3.1 0) c.from-entries.ensures _ c.in_ok-fields.ensures
