@@ -4,17 +4,22 @@ use mathlib.Core.Bool.{Bool, true, false, not, cond}
 use mathlib.Core.List.{List, [], ◌∷◌, ◌++◌}
 use Prim.Native.Nat.{ℕ, ◌+◌, ◌-◌, ◌*◌, ◌≤◌, ◌<◌}
 use native.Mathlib.Omega.{arith}
-use borrow.Author.Tests.{ne_eqb, lt-ltb, le-ltb, ltb-true}
+use Rattle.std.proofs.Common.{◌⊎◌, inl, inr}
+use borrow.Author.Tests.{lt-ltb, le-ltb, ltb-true}
+use lib.Dec.{eqb, ltb}
 use mir.Val.{Fits}
 use mir.Syntax.{w32}
 use lib.IntN.{ℤ}
 use lib.ListN.{length, get_or, take, drop, length-drop}
 use lib.Seq.{length-take-le}
+use Rattle.meaning.specs.Tests.{between}
+use Rattle.meaning.specs.Operations.{value_limit}
 use Rattle.meaning.specs.Rows.{count_by_rows}
 use Rattle.meaning.specs.Table.{Header, Table, kind_in}
 use Rattle.meaning.specs.Questions.{Asked, Source, total, flag, count, holds, fits, by_rows, answer_from}
 use Rattle.meaning.specs.Refusals.{◌when◌, first_of, declared, well_asked, list_too_long, asked_refusals, question_refusals}
 use Rattle.meaning.specs.Calls.{Reply, refused, too_long, answered, reply_of, ask_of, ask}
+use Rattle.meaning.proofs.Tests.{and_left, between_out}
 use Rattle.words_layout.specs.Layout.{table_of, objects_in, size_in, count_in, total_words, total_of_words, totals_at}
 use Rattle.words_layout.proofs.RowWords.{high_of, low_of}
 use Rattle.words_layout.proofs.Reading.{kinds_part}
@@ -23,12 +28,14 @@ use Rattle.table_change.proofs.Changing.{opened}
 use Rattle.table_change.proofs.Totals.{old_total}
 use Rattle.words_tags.specs.declared.RowCount.{RowCount}
 use Rattle.refusal_kind.specs.Asking.{asked_from}
+use Rattle.refusal_kind.specs.Questions.{asks_number}
+use Rattle.refusal_kind.specs.declared.Asks.{Asks}
 use Rattle.table_rules.specs.Checked.{Checked}
 use Rattle.refusal_order.specs.Fields.{header_of_kinds}
 use Rattle.refusal_order.proofs.Chains.{asked_by_kinds}
 use Rattle.question.specs.Replies.{replied, list_reply}
-use Rattle.question.specs.declared.Reply as code
-use Rattle.question.specs.declared.Reply.TheVariants as says
+use Rattle.question.specs.Told.{Told}
+use Rattle.question.specs.Told as says
 use Rattle.words_layout.specs.Words.{word_limit}
 
 -- two words, read as a total and written again
@@ -82,6 +89,10 @@ chain_declared true b c e = absurd (omega arith)
 chain_declared false true c e = refl
 chain_declared false false c e = absurd (omega arith)
 
+chain_asked : (a b c : Bool) → first_of ((1 when not a) ∷ (3 when b) ∷ (12 when c) ∷ []) ≡ 0 → a ≡ true
+chain_asked true b c e = refl
+chain_asked false b c e = absurd (omega arith)
+
 module _ (header : Header) (source : Source) (room : ℕ) (asked : Asked) where
   first_refuses : (first_of (asked_refusals header asked) ≡ 0 → ⊥) → ask_of header source room asked ≡ refused (first_of (asked_refusals header asked))
   unfolding ask_of question_refusals asked_refusals
@@ -95,6 +106,16 @@ module _ (header : Header) (source : Source) (room : ℕ) (asked : Asked) where
   unfolding asked_refusals
   is_declared e = chain_declared (not (well_asked asked)) (declared header asked.object) (not (fits asked.question (kind_in header asked.object))) e
 
+-- no question but the five passes
+passes_known : (header : Header) (asked : Asked) → first_of (asked_refusals header asked) ≡ 0 → (1 ≤ asked.question) × (asked.question ≤ 5)
+unfolding asked_refusals well_asked
+passes_known header asked e =
+    between_out 1 5 asked.question (and_left (between 1 5 asked.question) (cond (eqb asked.question 5) (ltb asked.value value_limit) (eqb asked.value 0))
+    (chain_asked (well_asked asked) (not (declared header asked.object)) (not (fits asked.question (kind_in header asked.object))) e))
+
+pub asks_is : (found asks : Asks) (question : ℕ) → found ≡ asks → asks_number found ≡ question → question ≡ asks_number asks
+asks_is found asks question e f = sym f ∙ ap asks_number e
+
 -- a question to a table
 module _ (s : List ℕ) (K : Checked s) (object question value n : ℕ) (en : n ≡ objects_in s) (refusal : ℕ) (er : refusal ≡ first_of (asked_refusals (header_of_kinds (take (7 + n - 7) (drop 7 s))) (asked_from object question value))) (out : List ℕ) where
   abbrev t : Table
@@ -105,6 +126,11 @@ module _ (s : List ℕ) (K : Checked s) (object question value n : ℕ) (en : n 
 
   first_is : first_of (asked_refusals t.header (asked_from object question value)) ≡ refusal
   first_is = rw (asked_by_kinds t.header (asked_from object question value), sym (kinds_part s n en)) (sym er)
+
+  pub known_question : refusal ≡ 0 → question < 1 ⊎ 5 < question → ⊥
+  known_question z none =
+      let k = passes_known t.header (asked_from object question value) (first_is ∙ z) in
+      elim none [ inl below ↦ omega (arith, k, below) | inr above ↦ omega (arith, k, above) ]
 
   pub refused_replied : (refusal ≡ 0 → ⊥) → (says.Refused refusal, out) ≡ replied reply out
   unfolding ask replied
@@ -133,7 +159,7 @@ module _ (s : List ℕ) (K : Checked s) (object question value n : ℕ) (en : n 
         let given : reply ≡ answered (flag ((by_rows t).in_at object 0)) = is_passed ∙ rw q refl in
         ap (λ (on : Bool). (says.Flag on, out)) e ∙ sym (ap (λ (r : Reply). replied r out) given)
 
-    pub list_asked : question ≡ 3 → (r : code.Reply) (x : List ℕ) → (r, x) ≡ replied (list_reply t object (length out)) out → (r, x) ≡ replied reply out
+    pub list_asked : question ≡ 3 → (r : Told) (x : List ℕ) → (r, x) ≡ replied (list_reply t object (length out)) out → (r, x) ≡ replied reply out
     unfolding list_too_long answer_from list_reply
     list_asked q r x e = e ∙ sym (ap (λ (r : Reply). replied r out) (is_passed ∙ rw q refl))
 
@@ -143,11 +169,8 @@ module _ (s : List ℕ) (K : Checked s) (object question value n : ℕ) (en : n 
         let given : reply ≡ answered (count ((by_rows t).count_at object)) = is_passed ∙ rw q refl in
         ap (λ (m : ℕ). (says.Count (record { 0 = m }), out)) e ∙ sym (ap (λ (r : Reply). replied r out) given)
 
-    module _ (n1 : question ≡ 1 → ⊥) (n2 : question ≡ 2 → ⊥) (n3 : question ≡ 3 → ⊥) (n4 : question ≡ 4 → ⊥) where
-      is_held : reply ≡ answered (holds ((by_rows t).in_at object value))
-      unfolding list_too_long answer_from
-      is_held = is_passed ∙ rw (ne_eqb question 1 n1, ne_eqb question 2 n2, ne_eqb question 3 n3, ne_eqb question 4 n4) refl
-
-      pub holds_replied : (b : Bool) → b ≡ (by_rows t).in_at object value → (says.Holds b, out) ≡ replied reply out
-      unfolding replied
-      holds_replied b e = ap (λ (there : Bool). (says.Holds there, out)) e ∙ sym (ap (λ (r : Reply). replied r out) is_held)
+    pub holds_replied : question ≡ 5 → (b : Bool) → b ≡ (by_rows t).in_at object value → (says.Holds b, out) ≡ replied reply out
+    unfolding replied list_too_long answer_from
+    holds_replied q b e =
+        let given : reply ≡ answered (holds ((by_rows t).in_at object value)) = is_passed ∙ rw q refl in
+        ap (λ (there : Bool). (says.Holds there, out)) e ∙ sym (ap (λ (r : Reply). replied r out) given)

@@ -49,19 +49,23 @@ pub record Writing (s : List ℕ) (o : ℕ) (out₀ out : List ℕ) (passed to l
   pub number : length (values_behind passed o (table_of s)) ≡ left
   pub whole : listed s o ++ drop (length (listed s o)) out₀ ≡ take to out ++ (values_behind passed o (table_of s) ++ drop (to + left) out)
 
-pub writing_start : (s : List ℕ) (o count : ℕ) (out : List ℕ) → Checked s → count ≡ (by_rows (table_of s)).count_at o → count ≤ length out → Writing s o out out 0 0 count
+pub writing_start : (s : List ℕ) (o count n : ℕ) (out : List ℕ) → Checked s → count ≡ (by_rows (table_of s)).count_at o → count ≤ length out → n ≡ count → Writing s o out out 0 0 (n - 0)
 unfolding by_rows count_by_rows
-writing_start s o count out K e h =
+writing_start s o count n out K e h en =
+    let m : n - 0 ≡ count = omega arith in
     let z : 0 + count ≡ count = omega arith in
-    record {
+    rw m (record {
       sized = refl;
       room = omega arith;
       number = ap (λ (l : List ℕ). length l) (sym (all_left o (table_of s) K.by_rules)) ∙ sym e;
       whole = rw z (ap (λ (k : ℕ). listed s o ++ drop k out) (sym e) ∙ ap (λ (l : List ℕ). l ++ drop count out) (all_left o (table_of s) K.by_rules));
-    }
+    })
 
-module _ (s : List ℕ) (o : ℕ) (out₀ out : List ℕ) (passed to left : ℕ) (W : Writing s o out₀ out passed to left) where
-  pub writing_done : left ≤ 0 → out ≡ listed s o ++ drop (length (listed s o)) out₀
+module _ (s : List ℕ) (o : ℕ) (out₀ out : List ℕ) (passed to count : ℕ) (W : Writing s o out₀ out passed to (count - to)) where
+  abbrev left : ℕ
+  left = count - to
+
+  pub writing_done : count ≤ to → out ≡ listed s o ++ drop (length (listed s o)) out₀
   writing_done h =
       let z : left ≡ 0 = omega arith in
       let t : to + 0 ≡ to = omega arith in
@@ -72,18 +76,18 @@ module _ (s : List ℕ) (o : ℕ) (out₀ out : List ℕ) (passed to left : ℕ)
       empty [] e = refl
       empty (x ∷ l) e = absurd (omega arith)
 
-  module _ (h : 0 < left) where
-    pub one_left : 0 < length (values_behind passed o (table_of s))
+  module _ (h : to < count) where
+    one_left : 0 < length (values_behind passed o (table_of s))
     one_left = omega (arith, W.number)
 
-    pub to_within : to < length out
+    to_within : to < length out
     to_within = omega (arith, W.room, W.sized)
 
-    pub writing_next : (f : Found) → f ≡ next_value passed o (table_of s) → Writing s o out₀ (set out to f.value.0) f.passed.0 (to + 1) (left - 1)
+    pub writing_next : (f : Found) → f ≡ next_value passed o (table_of s) → Writing s o out₀ (set out to f.value.0) f.passed.0 (to + 1) (count - (to + 1))
     writing_next f e =
         let next = next_left passed o (table_of s) one_left in
-        let many : left ≡ suc (left - 1) = omega arith in
-        let behind : to + 1 + (left - 1) ≡ to + left = omega arith in
+        let many : left ≡ suc (count - (to + 1)) = omega arith in
+        let behind : to + 1 + (count - (to + 1)) ≡ to + left = omega arith in
         rw e (record {
           sized = length-set out to (next_value passed o (table_of s)).value.0 ∙ W.sized;
           room = omega (arith, W.room);

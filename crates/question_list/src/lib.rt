@@ -12,7 +12,7 @@ use words_layout::{COUNT_AT, KEY, LOW_AT, SIZE_AT};
 use words_tags::{RowCount, Value};
 
 // The next value of a walk, and how many rows are passed with it.
-#[derive(Clone, Copy)]
+#[derive(Clone, Copy, Debug, PartialEq, Eq)]
 pub struct Found {
     pub value: Value,
     pub passed: RowCount,
@@ -52,8 +52,7 @@ pub fn count_in(s: &[u32], object: u32) -> RowCount
     let start = rows_start(s);
     let width = row_width(s);
     let rows = RowCount(s[COUNT_AT]);
-    let values = question_scan::count_shown(&s[start..], width, rows, object);
-    values
+    question_scan::count_shown(&s[start..], width, rows, object)
 }
 
 // The next value of the object behind so many rows, where one is left: a walk over the list without a space for it.
@@ -83,13 +82,9 @@ pub fn list_into(s: &[u32], object: u32, count: RowCount, out: &mut [u32])
     ensures { out.new ≡ (by_rows (table_of s.now)).list_at object ++ drop (length ((by_rows (table_of s.now)).list_at object)) out.old }
 {
     let mut passed = 0;
-    let mut to = 0;
-    let mut left = count.0;
-    while 0 < left {
+    for to in 0..words_tags::wide(count.0) {
         let found = next_value(s, object, RowCount(passed));
         out[to] = found.value.0;
         passed = found.passed.0;
-        to += 1;
-        left -= 1;
     }
 }

@@ -2,8 +2,5 @@ use borrow.Author.Rules.{rules}
 use Rattle.question_list.proofs.Scanned.{part_room, count_by_rows_lem}
 use Rattle.question_list.proofs.count_in.Goals as goal
 
-pub count_shown-values-requires : goal.count_shown-values-requires
-count_shown-values-requires c = (search part_room, search rules)
-
 pub returns : goal.returns
 returns c = search count_by_rows_lem

@@ -2,29 +2,11 @@ use borrow.Author.Rules.{rules}
 use Rattle.question_list.proofs.Walks.{passed_most, passed_fits, from_fits, rest_room, sum_fits, next_fits, before_fits, at_fits, low_fits, low_scaled, low_within, walked}
 use Rattle.question_list.proofs.next_value.Goals as goal
 
-pub overflow_mul-from : goal.overflow_mul-from
-overflow_mul-from c = search passed_fits
-
-pub overflow_add-from : goal.overflow_add-from
-overflow_add-from c = search from_fits
-
 pub overflow_sub-s : goal.overflow_sub-s
 overflow_sub-s c = search passed_most
 
 pub next_shown-before-requires : goal.next_shown-before-requires
 next_shown-before-requires c = (search rest_room, search rules)
-
-pub overflow_mul-at : goal.overflow_mul-at
-overflow_mul-at c = search before_fits
-
-pub overflow_add-at : goal.overflow_add-at
-overflow_add-at c = search at_fits
-
-pub overflow_add-result : goal.overflow_add-result
-overflow_add-result c = search low_fits
-
-pub offset_bounds-s-at : goal.offset_bounds-s-at
-offset_bounds-s-at c = search low_scaled
 
 pub bounds-s-at : goal.bounds-s-at
 bounds-s-at c = search low_within
