@@ -1,24 +1,20 @@
 -- The entries of a vector against D and against the sender's last vector.
 use Prim.Native.Nat.{ℕ, suc, ◌+◌, ◌-◌, ◌*◌, ◌≤◌, ◌<◌}
 use mathlib.Core.Path.{◌≡◌, refl, sym, ap, subst, ◌∙◌}
-use mathlib.Core.Bool.{Bool, true, false, cond}
+use mathlib.Core.Bool.{Bool, true, false, cond, ◌&&◌, and-true, and-false}
 use mathlib.Core.List.{List, []}
-use native.Mathlib.Nat.{mul-le-mul, mul-le-mul_right, suc-mul}
 use native.Mathlib.Omega.{arith}
-use borrow.Author.Tests.{eqb-true, eqb-false, eq-eqb, ne_eqb, le-leb, lt-leb}
-use mir.Val.{Fits}
-use mir.Syntax.{w64}
+use borrow.Author.Tests.{eqb-true, eqb-false}
 use lib.Dec.{leb, eqb}
-use lib.ListN.{length, get_or, take, drop, length-set, length-drop, get_or-eq_default}
-use lib.Seq.{get_or-set_other, length-take-le}
-use Rattle.meaning.specs.Order.{Vector, entry_limit, at_most, raised}
+use lib.ListN.{length, get_or, take, drop, length-set, get_or-eq_default}
+use lib.Seq.{get_or-set_other}
+use Rattle.meaning.specs.Order.{Vector, at_most, raised}
 use Rattle.meaning.proofs.Tests.{cases}
 use Rattle.meaning.proofs.Vectors.{raised_at}
 use Rattle.words_layout.specs.Words.{pieces}
 use Rattle.words_layout.proofs.Pieces.{length_pieces, piece_at}
 use Rattle.words_tags.proofs.Pairs.{Passed, at_most_by_pairs, start, pair_fails, pair_holds, done}
 use Rattle.refusal_time.specs.Lasts.{last_of}
-use Rattle.meaning.specs.Table.{greatest_size}
 
 -- i entries are passed, with one that may be one more at the sender's place
 pub record Timely (v clock : Vector) (at : ℕ) (good : Bool) (i : ℕ) : Type 0 where
@@ -43,11 +39,18 @@ module _ (v clock : Vector) (at : ℕ) (good : Bool) (i : ℕ) (T : Timely v clo
     entry_is : leb (get_or v i 0) (get_or (raised clock at) i 0) ≡ r
     entry_is = ap (leb (get_or v i 0)) (raised_entry clock at i (omega (arith, T.sized))) ∙ sym e
 
-    pub time_fails : (noted : Bool) → noted ≡ false → r ≡ false → Timely v clock at noted (i + 1)
+    time_fails : (noted : Bool) → noted ≡ false → r ≡ false → Timely v clock at noted (i + 1)
     time_fails noted n f = record { sized = T.sized; within = omega arith; passed = pair_fails at_most leb at_most_by_pairs v (raised clock at) good i T.passed h noted n (entry_is ∙ f) }
 
-    pub time_holds : (noted : Bool) → noted ≡ good → r ≡ true → Timely v clock at noted (i + 1)
+    time_holds : (noted : Bool) → noted ≡ good → r ≡ true → Timely v clock at noted (i + 1)
     time_holds noted n f = record { sized = T.sized; within = omega arith; passed = pair_holds at_most leb at_most_by_pairs v (raised clock at) good i T.passed h noted n (entry_is ∙ f) }
+
+    pub time_turn : (noted : Bool) → noted ≡ (good && r) → Timely v clock at noted (i + 1)
+    time_turn noted n = by r refl
+      where
+        by : (b : Bool) → r ≡ b → Timely v clock at noted (i + 1)
+        by true e = time_holds noted (n ∙ ap (λ (b : Bool). good && b) e ∙ and-true good) e
+        by false e = time_fails noted (n ∙ ap (λ (b : Bool). good && b) e ∙ and-false good) e
 
   pub time_done : length v ≤ i → (sender : ℕ) → at ≡ sender → good ≡ at_most v (raised clock sender)
   time_done h sender e = done at_most leb at_most_by_pairs v (raised clock at) good i T.passed h ∙ ap (λ (s : ℕ). at_most v (raised clock s)) e

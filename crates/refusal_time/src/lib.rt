@@ -36,12 +36,8 @@ pub fn in_time(v: &[u32], clock: &[u32], sender: Station) -> bool
 {
     let at = words_tags::wide(sender.0);
     let mut good = true;
-    let mut i = 0;
-    while i < v.len() {
-        if !entry_in_time(v[i], clock[i], i == at) {
-            good = false;
-        }
-        i += 1;
+    for i in 0..v.len() {
+        good &= entry_in_time(v[i], clock[i], i == at);
     }
     good
 }
