@@ -1,53 +1,22 @@
 -- Whether a row is put, and whether there is room for it.
 use mathlib.Core.Path.{◌≡◌, refl, sym, ap, ◌∙◌}
-use mathlib.Core.Bool.{Bool, true, false, not, ◌||◌}
-use mathlib.Core.List.{List, [], map}
-use Prim.Native.Nat.{ℕ, ◌+◌, ◌-◌, ◌*◌, ◌≤◌, ◌<◌}
-use native.Mathlib.Omega.{arith}
+use mathlib.Core.Bool.{Bool, true, false, not}
+use mathlib.Core.List.{List, []}
+use Prim.Native.Nat.{ℕ, ◌+◌, ◌-◌}
 use borrow.Author.Tests.{eq-eqb, ne_eqb}
 use lib.Dec.{eqb, leb, ltb}
 use lib.ListN.{length, take, drop}
 use Rattle.meaning.specs.Tests.{any}
 use Rattle.meaning.specs.Order.{Vector}
 use Rattle.meaning.specs.Operations.{is_counter}
-use Rattle.meaning.specs.Rows.{Row}
 use Rattle.meaning.specs.Arrival.{gets_row, same_value}
-use Rattle.words_layout.specs.Words.{pieces}
-use Rattle.words_layout.specs.Layout.{row_of, table_of, capacity_in, rows_at}
+use Rattle.words_layout.specs.Layout.{table_of, capacity_in, rows_at}
 use Rattle.table_drop.specs.Arriving.{operation_of, is_kept, puts, staying}
 use Rattle.table_drop.specs.declared.Arrival.{Arrival}
-use Rattle.table_drop.proofs.Dropping.{Place, place_start, place_next, ahead}
 use Rattle.table_change.specs.Changes.{Opened, rows_left}
 use Rattle.table_change.proofs.Changing.{all_of, left_count}
 use Rattle.arrival.specs.Arrives.{has_value, has_room}
 use Rattle.arrival.proofs.RowsAfter.{count_put, count_none}
-
--- a pass over rows until one is of the value
-pub record Looking (a : Arrival) (v : Vector) (w count : ℕ) (s : List ℕ) (from more : ℕ) : Type 0 where
-  pub place : Place w count s from more
-  pub ahead_same : has_value a v w count s ≡ has_value a v w more (drop from s)
-
-pub looking_start : (a : Arrival) (v : Vector) (s : List ℕ) (w count : ℕ) → count * w ≤ length s → Looking a v w count s 0 count
-looking_start a v s w count h = record { place = place_start s w count h; ahead_same = refl }
-
-module _ (a : Arrival) (v : Vector) (s : List ℕ) (w count from more : ℕ) (L : Looking a v w count s from more) (h : 0 < more) (r : Bool) (e : r ≡ same_value (operation_of a v) (row_of (take (from + w - from) (drop from s)))) where
-  abbrev rest : List Row
-  rest = map row_of (pieces w (more - 1) (drop (from + w) s))
-
-  whole : has_value a v w count s ≡ (r || any (same_value (operation_of a v)) rest)
-  unfolding has_value
-  whole = L.ahead_same ∙ ap (λ (l : List (List ℕ)). any (same_value (operation_of a v)) (map row_of l)) (ahead s w count from more L.place h) ∙ rw (sym e) refl
-
-  pub looking_found : r ≡ true → true ≡ has_value a v w count s
-  looking_found t = sym (whole ∙ rw t refl)
-
-  pub looking_on : r ≡ false → Looking a v w count s (from + w) (more - 1)
-  unfolding has_value
-  looking_on f = record { place = place_next s w count from more L.place h; ahead_same = whole ∙ rw f refl }
-
-pub looking_done : (a : Arrival) (v : Vector) (s : List ℕ) (w count from more : ℕ) → Looking a v w count s from more → more ≤ 0 → false ≡ has_value a v w count s
-unfolding has_value
-looking_done a v s w count from more L h = let z : more ≡ 0 = omega arith in sym (L.ahead_same ∙ rw z refl)
 
 -- "a clear gets none in any kind, a remove or disable gets none in kinds 5 and 8"
 module _ (a : Arrival) where

@@ -39,17 +39,9 @@ fn has_value(rows: &[u32], width: usize, count: RowCount, a: Arrival, v: &[u32])
     requires { (count.0 * width ≤ length rows.now) × (width ≡ row_width (length v.now)) }
     ensures { result ≡ has_value a v.now width count.0 rows.now }
 {
-    let mut from = 0;
-    let mut more = count.0;
-    while 0 < more {
-        more -= 1;
-        let end = from + width;
-        if table_drop::same_value(&rows[from..end], a, v) {
-            return true;
-        }
-        from = end;
-    }
-    false
+    rows[..words_tags::wide(count.0) * width]
+        .chunks_exact(width)
+        .any(|row| table_drop::same_value(row, a, v))
 }
 
 // Whether an arrival of kinds 5 to 9 gets a row: a clear gets none, and a remove none where only adds are stored.

@@ -1,5 +1,5 @@
 -- The least of the other stations' vectors, made one after the other.
-use mathlib.Core.Path.{◌≡◌, refl, sym, ap, ◌∙◌}
+use mathlib.Core.Path.{◌≡◌, refl, sym, ap, subst, ◌∙◌}
 use mathlib.Core.Bool.{Bool, true, false, cond}
 use mathlib.Core.List.{List, [], ◌∷◌, ◌++◌, append-nil}
 use Prim.Native.Nat.{ℕ, zero, suc, ◌+◌, ◌-◌, ◌*◌, ◌≤◌, ◌<◌, min}
@@ -45,7 +45,7 @@ lessening_start own low lasts h =
     let o : own - 0 ≡ own = omega arith in
     record { sized = refl; within = omega arith; place = rw z (omega arith); room = h; whole = rw (z, le-ltb own 0 (omega arith), o) refl }
 
-module _ (own : ℕ) (low₀ lasts low : List ℕ) (k at : ℕ) (L : Lessening own low₀ lasts low k at) (h : k < length low) where
+module _ (own : ℕ) (low₀ lasts low : List ℕ) (k at : ℕ) (L : Lessening own low₀ lasts low k at) (h : k < length low₀) where
   abbrev n : ℕ
   n = length low₀
 
@@ -66,14 +66,17 @@ module _ (own : ℕ) (low₀ lasts low : List ℕ) (k at : ℕ) (L : Lessening o
   ahead : pieces n (n - k) (drop at lasts) ≡ take n (drop at lasts) ∷ pieces n (n - (k + 1)) (drop (at + n) lasts)
   ahead = rw (one, drop-drop n at lasts) refl
 
-  pub lessening_skip : k ≡ own → Lessening own low₀ lasts low (k + 1) (at + length low)
-  lessening_skip e = rw L.sized (record {
+  skipped : k ≡ own → Lessening own low₀ lasts low (k + 1) (at + length low)
+  skipped e = rw L.sized (record {
     sized = L.sized;
     within = omega (arith, L.sized);
     place = next_place;
     room = L.room;
     whole = L.whole ∙ ap (λ (l : List Vector). least_of low (rest_from own k l)) ahead ∙ ap (least_of low) (rest_skips own k (take n (drop at lasts)) (pieces n (n - (k + 1)) (drop (at + n) lasts)) e);
   })
+
+  pub lessening_skip : (low' : List ℕ) → low' ≡ low → k ≡ own → Lessening own low₀ lasts low' (k + 1) (at + length low)
+  lessening_skip low' same e = subst (λ (l : List ℕ). Lessening own low₀ lasts l (k + 1) (at + length low)) (sym same) (skipped e)
 
   pub lessening_by : (low' : List ℕ) → length low' ≡ length low → (k ≡ own → ⊥) → low' ≡ least low (take (at + length low - at) (drop at lasts)) → Lessening own low₀ lasts low' (k + 1) (at + length low)
   lessening_by low' g ne e =
@@ -87,7 +90,7 @@ module _ (own : ℕ) (low₀ lasts low : List ℕ) (k at : ℕ) (L : Lessening o
             ∙ ap (λ (v : Vector). least_of v (rest_from own (k + 1) (pieces n (n - (k + 1)) (drop (at + n) lasts)))) (sym (rw q at e));
       })
 
-lessening_done : (own : ℕ) (low₀ lasts low : List ℕ) (k at : ℕ) → Lessening own low₀ lasts low k at → length low ≤ k → low ≡ least_of low₀ (others_of own (pieces (length low₀) (length low₀) lasts))
+lessening_done : (own : ℕ) (low₀ lasts low : List ℕ) (k at : ℕ) → Lessening own low₀ lasts low k at → length low₀ ≤ k → low ≡ least_of low₀ (others_of own (pieces (length low₀) (length low₀) lasts))
 lessening_done own low₀ lasts low k at L h =
     let z : length low₀ - k ≡ 0 = omega (arith, L.sized) in
     sym (L.whole ∙ rw z (none (ltb own k) (own - k)))
@@ -96,7 +99,7 @@ lessening_done own low₀ lasts low k at L h =
     none true m = refl
     none false m = refl
 
-pub lessened_by : (own place : ℕ) (low₀ lasts low : List ℕ) (k at : ℕ) → place ≡ own → Lessening place low₀ lasts low k at → length low ≤ k → low ≡ least_of low₀ (others_of own (pieces (length low₀) (length low₀) lasts))
+pub lessened_by : (own place : ℕ) (low₀ lasts low : List ℕ) (k at : ℕ) → place ≡ own → Lessening place low₀ lasts low k at → length low₀ ≤ k → low ≡ least_of low₀ (others_of own (pieces (length low₀) (length low₀) lasts))
 lessened_by own place low₀ lasts low k at e L h = lessening_done place low₀ lasts low k at L h ∙ rw e refl
 
 -- the least of the clock and vectors below it is the least of the vectors

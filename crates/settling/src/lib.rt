@@ -20,18 +20,13 @@ fn lessen_by_others(low: &mut [u32], lasts: &[u32], own: Station)
     ensures { low.new ≡ least_of low.old (others_of own.0 (pieces (length low.old) (length low.old) lasts.now)) }
 {
     let place = words_tags::wide(own.0);
-    let mut k = 0;
     let mut at = 0;
-    while k < low.len() {
-        let station = k;
+    for station in 0..low.len() {
         let end = at + low.len();
-        k += 1;
-        if station == place {
-            at = end;
-        } else {
+        if station != place {
             words_tags::lessen(low, &lasts[at..end]);
-            at = end;
         }
+        at = end;
     }
 }
 

@@ -1,11 +1,10 @@
-use Rattle.settling.proofs.Least.{lessening_start, lessening_skip, lessening_by, lessened_by, part_room, part_long}
+use Rattle.std.proofs.Common.{◌∙◌}
+use Rattle.settling.proofs.Least.{lessening_start, lessening_by, lessening_skip, lessened_by, part_room, part_long}
 use Rattle.settling.proofs.lessen_by_others.Goals as goal
+use Rattle.settling.proofs.lessen_by_others.Goals.{then-station-place, else-station-place}
 
-pub loop-k-init : goal.loop-k-init
-loop-k-init c = search lessening_start
-
-pub loop-k-preserved-then-station-place : goal.loop-k-preserved-then-station-place
-loop-k-preserved-then-station-place c = search lessening_skip
+pub loop-station-init : goal.loop-station-init
+loop-station-init c = search lessening_start
 
 pub slice_bounds-lessen-end : goal.slice_bounds-lessen-end
 slice_bounds-lessen-end c = search part_room
@@ -13,8 +12,13 @@ slice_bounds-lessen-end c = search part_room
 pub lessen-requires : goal.lessen-requires
 lessen-requires c = search part_long
 
-pub loop-k-preserved : goal.loop-k-preserved
-loop-k-preserved c = search lessening_by
+pub loop-station-preserved : goal.loop-station-preserved
+loop-station-preserved c =
+    let low = c.if-station-place.low in
+    elim c.if-station-place.branch [
+      | then-station-place w ↦ lessening_by _ _ _ _ _ _ c.loop-station.invariant c.loop-station-test.true low c.if-station-place.auto.low w.if-station-place.true (w.low-is ∙ w.lessen.ensures)
+      | else-station-place w ↦ lessening_skip _ _ _ _ _ _ c.loop-station.invariant c.loop-station-test.true low w.low-is w.if-station-place.false
+    ]
 
 pub returns : goal.returns
 returns c = search lessened_by
