@@ -8,6 +8,7 @@ use borrow.Author.Tests.{eqb-true, eqb-false, eq-eqb, ne_eqb, ltb-true, ltb-fals
 use lib.Dec.{eqb, ltb, leb}
 use lib.ListN.{length, get_or, drop, replicate, length-drop, get_or-eq_default}
 use lib.Seq.{drop-drop, drop-cons, get_or-drop}
+use Rattle.meaning.specs.Tests.{every}
 use Rattle.meaning.specs.Order.{Vector, at_most}
 use Rattle.meaning.specs.Operations.{number_of, value_allowed}
 use Rattle.meaning.specs.Table.{Table, kind_in, storable, settled_only, tag_rule, row_rule}
@@ -19,6 +20,10 @@ use Rattle.table_rules_rows.specs.RowTests.{content_kept, number_kept, unsettled
 use Rattle.table_rules_rows.proofs.Contents.{stores_no_counter}
 
 -- words that are all 0
+pub every_zero : (l : List ℕ) → every (λ word. eqb word 0) l ≡ all_zero l
+every_zero [] = refl
+every_zero (x ∷ l) = ap (λ b. eqb x 0 && b) (every_zero l)
+
 pub zero_at : (l : List ℕ) → all_zero l ≡ true → (i : ℕ) → get_or l i 0 ≡ 0
 zero_at [] e i = refl
 zero_at (x ∷ l) e zero = eqb-true x 0 (and_left (eqb x 0) (all_zero l) e)

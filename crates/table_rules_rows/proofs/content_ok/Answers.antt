@@ -1,17 +1,13 @@
-use Rattle.table_rules_rows.proofs.Contents.{content_not_stored, content_high, content_enabled, content_disabled, content_word}
+use Rattle.std.proofs.Common.{refl, arith}
+use Rattle.std.proofs.lemmas.Bool.Decides.{nat_tests}
+use Rattle.table_rules_rows.proofs.Contents.{content_tests}
 use Rattle.table_rules_rows.proofs.content_ok.Goals as goal
 
-pub returns-then-row-ne0 : goal.returns-then-row-ne0
-returns-then-row-ne0 c = search content_high
+pub returns-then-not-is_flag : goal.returns-then-not-is_flag
+returns-then-not-is_flag c = let tests = content_tests c.args.kind c.args.row.now c.is_storable.result c.is_flag.result c.is_storable.ensures c.is_flag.ensures c.type_inv.row in grind (arith, nat_tests, tests)
 
-pub returns-then-kind-eq-ENABLE_WINS_FLAG : goal.returns-then-kind-eq-ENABLE_WINS_FLAG
-returns-then-kind-eq-ENABLE_WINS_FLAG c = search content_enabled
+pub returns-else-not-is_flag : goal.returns-else-not-is_flag
+returns-else-not-is_flag c = let tests = content_tests c.args.kind c.args.row.now c.is_storable.result c.is_flag.result c.is_storable.ensures c.is_flag.ensures c.type_inv.row in grind (arith, nat_tests, tests)
 
-pub returns-then-kind-eq-DISABLE_WINS_FLAG : goal.returns-then-kind-eq-DISABLE_WINS_FLAG
-returns-then-kind-eq-DISABLE_WINS_FLAG c = search content_disabled
-
-pub returns-then-is_storable : goal.returns-then-is_storable
-returns-then-is_storable c = search content_word
-
-pub returns : goal.returns
-returns c = search content_not_stored
+pub returns-else-row-eq-NO_HIGH : goal.returns-else-row-eq-NO_HIGH
+returns-else-row-eq-NO_HIGH c = let tests = content_tests c.args.kind c.args.row.now c.is_storable.result _ c.is_storable.ensures refl c.type_inv.row in grind (arith, nat_tests, tests)

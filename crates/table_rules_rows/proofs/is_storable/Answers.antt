@@ -1,23 +1,21 @@
-use Rattle.table_rules_rows.proofs.Contents.{stores_no_counter, stores_no_kind, stores_adds, stores_no_other, stores_removes, stores_removes_4, stores_removes_6}
+use Rattle.std.proofs.Common.{arith}
+use Rattle.std.proofs.lemmas.Bool.Decides.{nat_tests}
+use Rattle.table_rules_rows.proofs.Contents.{stores_unknown, stores_known, keeps_no_others}
 use Rattle.table_rules_rows.proofs.is_storable.Goals as goal
 
-pub returns-then-kind-lt-GROW_SET : goal.returns-then-kind-lt-GROW_SET
-returns-then-kind-lt-GROW_SET c = search stores_no_counter
-
-pub returns-then-kind-gt-REMOVE_WINS_SET : goal.returns-then-kind-gt-REMOVE_WINS_SET
-returns-then-kind-gt-REMOVE_WINS_SET c = search stores_no_kind
+pub returns-in_default : goal.returns-in_default
+returns-in_default c = stores_unknown c.args.kind c.args.row.now c.in_default.ensures.1
 
 pub returns-then-row-eq-ADDS : goal.returns-then-row-eq-ADDS
-returns-then-row-eq-ADDS c = search stores_adds
+returns-then-row-eq-ADDS c = stores_known _ c.in-Ok.kind c.args.row.now c.in-Ok.ensures _ (grind (arith, nat_tests))
 
-pub returns-then-row-ne-REMOVES : goal.returns-then-row-ne-REMOVES
-returns-then-row-ne-REMOVES c = search stores_no_other
+pub returns-in-TwoPhaseSet : goal.returns-in-TwoPhaseSet
+returns-in-TwoPhaseSet c = stores_known _ c.in-Ok.kind c.args.row.now c.in-Ok.ensures _ (grind (arith, nat_tests))
 
-pub returns-then-kind-eq-TWO_PHASE_SET : goal.returns-then-kind-eq-TWO_PHASE_SET
-returns-then-kind-eq-TWO_PHASE_SET c = search stores_removes_4
+pub returns-in_default-matches : goal.returns-in_default-matches
+returns-in_default-matches c =
+    let none = keeps_no_others c.in-Ok.kind c.in_default-matches.not-TwoPhaseSet c.in_default-matches.not-DisableWinsFlag c.in_default-matches.not-RemoveWinsSet in
+    stores_known _ c.in-Ok.kind c.args.row.now c.in-Ok.ensures _ (grind (arith, nat_tests, none))
 
-pub returns-then-kind-eq-DISABLE_WINS_FLAG : goal.returns-then-kind-eq-DISABLE_WINS_FLAG
-returns-then-kind-eq-DISABLE_WINS_FLAG c = search stores_removes_6
-
-pub returns : goal.returns
-returns c = search stores_removes
+pub returns-else-row-eq-REMOVES : goal.returns-else-row-eq-REMOVES
+returns-else-row-eq-REMOVES c = stores_known _ c.in-Ok.kind c.args.row.now c.in-Ok.ensures _ (grind (arith, nat_tests))

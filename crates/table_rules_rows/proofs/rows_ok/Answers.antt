@@ -1,8 +1,12 @@
-use Rattle.table_rules_rows.proofs.Chaining.{rows_each, rows_chained}
+use Rattle.std.proofs.Common.{arith}
+use Rattle.std.proofs.lemmas.Bool.Decides.{nat_tests}
+use Rattle.table_rules_rows.specs.RowTests.{rows_kept}
 use Rattle.table_rules_rows.proofs.rows_ok.Goals as goal
 
 pub returns-then-each_ok : goal.returns-then-each_ok
-returns-then-each_ok c = search rows_chained
+unfolding rows_kept
+returns-then-each_ok c = grind (arith, nat_tests)
 
-pub returns : goal.returns
-returns c = search rows_each
+pub returns-else-each_ok : goal.returns-else-each_ok
+unfolding rows_kept
+returns-else-each_ok c = grind (arith, nat_tests)
