@@ -6,13 +6,16 @@ use Prim.Native.Nat.{ℕ, ◌+◌, ◌≤◌, ◌<◌, ◌-◌}
 use native.Mathlib.Omega.{arith}
 use borrow.Author.Tests.{eq-eqb, ne_eqb, le-leb, lt-leb}
 use lib.Dec.{eqb, leb}
-use lib.ListN.{drop, get_or, length, length-replicate, length-set, set, take}
+use lib.ListN.{drop, get_or, length, length-set, set, take}
 use Rattle.meaning.proofs.Tests.{and_both, and_fails}
 use Rattle.words_layout.specs.Layout.{count_in, holds_table, size_in}
+use Rattle.std.proofs.Common.{Some, None}
+use Rattle.std.specs.Bool.{if◌then◌else◌}
 use Rattle.line_hex.specs.Choice.{pick}
 use Rattle.line_read.specs.declared.Row.{Row}
 use Rattle.line_read.specs.declared.Closing.{Closing}
-use Rattle.line_read.specs.SavedNamed.{closing_read, row_read}
+use Rattle.line_read.specs.SavedNamed.{closing_read, is_closing, is_row, row_read}
+use Rattle.line_read.proofs.Readers.{given, none_given}
 use Rattle.form_row.specs.LoadHead.{LoadHead}
 use Rattle.form_row.specs.Joining.{joined, joins, row_said}
 use Rattle.form_row.proofs.Joining.{row_part}
@@ -57,10 +60,6 @@ unfolding spoilt
 same_spoilt s = rw (length-set s 6 0) refl
 
 module _ (s : List ℕ) where
-  pub spoilt_long : (r : Loaded) (x : List ℕ) → (r, x) ≡ spoilt (set s 6 0) → length x ≡ length s
-  unfolding spoilt
-  spoilt_long r x g = ap (λ (p : Loaded × List ℕ). length p.1) g ∙ length-replicate (length (set s 6 0)) 0 ∙ length-set s 6 0
-
   module _ (t : Bool) (q : t ≡ holds_table (set s 6 0)) where
     pub finish_table : t ≡ true → (loaded.Table, set s 6 0) ≡ finished s
     unfolding finished
@@ -71,38 +70,42 @@ module _ (s : List ℕ) where
     finish_none b r x g = g ∙ same_spoilt s ∙ sym (passed (holds_table (set s 6 0)) (loaded.Table, set s 6 0) (spoilt s) (sym q ∙ b))
 
 -- the closing line
-module _ (s bytes : List ℕ) (f : Closing) (h : f ≡ closing_read bytes) where
-  abbrev closing_test : Closing → Bool
-  closing_test q = q.ok && eqb q.rows (count_in s)
+module _ (s bytes : List ℕ) where
+  abbrev closing_way : Bool → Closing → Loaded × List ℕ
+  closing_way is q = pick (is && eqb q.rows (count_in s)) (finished s) (spoilt s)
 
-  closing_is : pick (closing_test f) (finished s) (spoilt s) ≡ closed bytes s
+  closing_is : closing_way (is_closing bytes) (closing_read bytes) ≡ closed bytes s
   unfolding closed
-  closing_is = ap (λ (q : Closing). pick (closing_test q) (finished s) (spoilt s)) h
+  closing_is = refl
 
-  closing_spoilt : closing_test f ≡ false → spoilt s ≡ closed bytes s
-  closing_spoilt b = sym (passed (closing_test f) (finished s) (spoilt s) b) ∙ closing_is
+  pub closing_misshapen : None ≡ (if is_closing bytes then Some (closing_read bytes) else None) → (r : Loaded) (x : List ℕ) → (r, x) ≡ spoilt s → (r, x) ≡ closed bytes s
+  closing_misshapen m r x g = g ∙ ap (λ (b : Bool). closing_way b (closing_read bytes)) (sym (none_given (is_closing bytes) (closing_read bytes) m)) ∙ closing_is
 
-  pub closing_misshapen : f.ok ≡ false → (r : Loaded) (x : List ℕ) → (r, x) ≡ spoilt s → (r, x) ≡ closed bytes s
-  closing_misshapen ok r x g = g ∙ closing_spoilt (ap (λ (b : Bool). b && eqb f.rows (count_in s)) ok)
+  module _ (f : Closing) (h : Some f ≡ (if is_closing bytes then Some (closing_read bytes) else None)) where
+    closing_judged : pick (eqb f.rows (count_in s)) (finished s) (spoilt s) ≡ closed bytes s
+    closing_judged =
+        let told : (is_closing bytes ≡ true) × (f ≡ closing_read bytes) = given (is_closing bytes) (closing_read bytes) f h in
+        ap (closing_way true) told.1 ∙ ap (λ (b : Bool). closing_way b (closing_read bytes)) (sym told.0) ∙ closing_is
 
-  pub closing_wrong_count : (f.rows ≡ get_or s 5 0 → ⊥) → (r : Loaded) (x : List ℕ) → (r, x) ≡ spoilt s → (r, x) ≡ closed bytes s
-  closing_wrong_count d r x g = g ∙ closing_spoilt (and_fails f.ok (eqb f.rows (count_in s)) (λ _. ne_eqb f.rows (count_in s) d))
+    pub closing_wrong_count : (f.rows ≡ get_or s 5 0 → ⊥) → (r : Loaded) (x : List ℕ) → (r, x) ≡ spoilt s → (r, x) ≡ closed bytes s
+    closing_wrong_count d r x g = g ∙ sym (passed (eqb f.rows (count_in s)) (finished s) (spoilt s) (ne_eqb f.rows (count_in s) d)) ∙ closing_judged
 
-  pub closing_right : f.ok ≡ true → f.rows ≡ get_or s 5 0 → (r : Loaded) (x : List ℕ) → (r, x) ≡ finished s → (r, x) ≡ closed bytes s
-  closing_right ok same r x g =
-      g ∙ sym (picked (closing_test f) (finished s) (spoilt s) (and_both f.ok (eqb f.rows (count_in s)) ok (eq-eqb f.rows (count_in s) same))) ∙ closing_is
+    pub closing_right : f.rows ≡ get_or s 5 0 → (r : Loaded) (x : List ℕ) → (r, x) ≡ finished s → (r, x) ≡ closed bytes s
+    closing_right same r x g = g ∙ sym (picked (eqb f.rows (count_in s)) (finished s) (spoilt s) (eq-eqb f.rows (count_in s) same)) ∙ closing_judged
 
 -- a row's line or the closing line
-module _ (s bytes : List ℕ) (n : ℕ) (en : n ≡ get_or s 1 0) (f : Row) (h : f ≡ row_read n bytes) where
-  abbrev row_way : Row → Loaded × List ℕ
-  row_way q = pick q.ok (row_taken q s) (closed bytes s)
+module _ (s bytes : List ℕ) (n : ℕ) (en : n ≡ get_or s 1 0) where
+  abbrev row_way : Bool → Row → Loaded × List ℕ
+  row_way is q = pick is (row_taken q s) (closed bytes s)
 
-  row_is : row_way f ≡ row_or_closing bytes s
+  row_is : row_way (is_row n bytes) (row_read n bytes) ≡ row_or_closing bytes s
   unfolding row_or_closing
-  row_is = ap row_way (h ∙ ap (λ (k : ℕ). row_read k bytes) en)
+  row_is = ap (λ (k : ℕ). row_way (is_row k bytes) (row_read k bytes)) en
 
-  pub row_comes : f.ok ≡ true → (r : Loaded) (x : List ℕ) → (r, x) ≡ row_taken f s → (r, x) ≡ row_or_closing bytes s
-  row_comes ok r x g = g ∙ sym (picked f.ok (row_taken f s) (closed bytes s) ok) ∙ row_is
+  pub row_comes : (f : Row) → Some f ≡ (if is_row n bytes then Some (row_read n bytes) else None) → (r : Loaded) (x : List ℕ) → (r, x) ≡ row_taken f s → (r, x) ≡ row_or_closing bytes s
+  row_comes f h r x g =
+      let told : (is_row n bytes ≡ true) × (f ≡ row_read n bytes) = given (is_row n bytes) (row_read n bytes) f h in
+      g ∙ ap (row_way true) told.1 ∙ ap (λ (b : Bool). row_way b (row_read n bytes)) (sym told.0) ∙ row_is
 
-  pub closing_comes : f.ok ≡ false → (r : Loaded) (x : List ℕ) → (r, x) ≡ closed bytes s → (r, x) ≡ row_or_closing bytes s
-  closing_comes ok r x g = g ∙ sym (passed f.ok (row_taken f s) (closed bytes s) ok) ∙ row_is
+  pub closing_comes : None ≡ (if is_row n bytes then Some (row_read n bytes) else None) → (r : Loaded) (x : List ℕ) → (r, x) ≡ closed bytes s → (r, x) ≡ row_or_closing bytes s
+  closing_comes m r x g = g ∙ ap (λ (b : Bool). row_way b (row_read n bytes)) (sym (none_given (is_row n bytes) (row_read n bytes) m)) ∙ row_is

@@ -7,7 +7,7 @@ use Rattle.table_rules.specs.TableTests.{clock_in, kinds_in}
 use Rattle.table_rules_clock.specs.ClockTests.{last_kept, total_kept}
 use Rattle.line_hex.specs.Choice.{pick}
 use Rattle.line_read.specs.declared.Row.{Row}
-use Rattle.line_read.specs.SavedNamed.{clock_read, closing_read, last_read, row_read, total_read}
+use Rattle.line_read.specs.SavedNamed.{clock_read, closing_read, is_clock, is_closing, is_last, is_row, is_total, last_read, row_read, total_read}
 use Rattle.form_row.specs.Joining.{joined, joins, row_said}
 use Rattle.form_take.specs.declared.Loaded.{Loaded}
 use Rattle.form_take.specs.declared.Loaded.TheVariants as loaded
@@ -32,14 +32,14 @@ took words at new = (loaded.Taken, set (paste words at new (length new)) 6 (suc 
 unfoldable pub clock_taken : List ℕ → List ℕ → Loaded × List ℕ
 clock_taken bytes words =
     let f = clock_read (size_in words) bytes in
-    pick f.ok (took words clock_at (take (size_in words) f.vector)) (spoilt words)
+    pick (is_clock (size_in words) bytes) (took words clock_at (take (size_in words) f.vector)) (spoilt words)
 
 -- `51` k, L[k], by its rule.
 unfoldable pub last_taken : ℕ → List ℕ → List ℕ → Loaded × List ℕ
 last_taken station bytes words =
     let f = last_read (size_in words) bytes in
     let vector = take (size_in words) f.vector in
-    pick (f.ok && (eqb f.station station && last_kept (own_in words) (clock_in words) station vector))
+    pick (is_last (size_in words) bytes && (eqb f.station station && last_kept (own_in words) (clock_in words) station vector))
     (took words (last_at (size_in words) + station * size_in words) vector)
     (spoilt words)
 
@@ -48,7 +48,7 @@ unfoldable pub total_taken : ℕ → List ℕ → List ℕ → Loaded × List �
 total_taken object bytes words =
     let f = total_read bytes in
     let total = f.high ∷ f.low ∷ [] in
-    pick (f.ok && (eqb f.object object && total_kept (total_bound (clock_in words)) (get_or (kinds_in words) object 0) (total_of_words total)))
+    pick (is_total bytes && (eqb f.object object && total_kept (total_bound (clock_in words)) (get_or (kinds_in words) object 0) (total_of_words total)))
     (took words (totals_at + object * 2) total)
     (spoilt words)
 
@@ -68,10 +68,9 @@ finished words =
 unfoldable pub closed : List ℕ → List ℕ → Loaded × List ℕ
 closed bytes words =
     let f = closing_read bytes in
-    pick (f.ok && eqb f.rows (count_in words)) (finished words) (spoilt words)
+    pick (is_closing bytes && eqb f.rows (count_in words)) (finished words) (spoilt words)
 
 -- Once all totals are there: a row's line, or else the closing line.
 unfoldable pub row_or_closing : List ℕ → List ℕ → Loaded × List ℕ
 row_or_closing bytes words =
-    let f = row_read (size_in words) bytes in
-    pick f.ok (row_taken f words) (closed bytes words)
+    pick (is_row (size_in words) bytes) (row_taken (row_read (size_in words) bytes) words) (closed bytes words)

@@ -16,7 +16,7 @@ use words_layout::{
 use words_tags::Station;
 
 // What a line of a form gets: a refusal's number, nothing but that it is taken, or that it closes the form and the table is there.
-#[derive(Clone, Copy)]
+#[derive(Clone, Copy, PartialEq, Eq)]
 pub enum Loaded {
     Refused(u32),
     Taken,
@@ -49,12 +49,10 @@ pub fn take_clock(space: &mut [u32], bytes: &[u8]) -> Loaded
     ensures { (result, space.new) ≡ clock_taken bytes.now space.old }
 {
     let size = words_tags::wide(space[SIZE_AT]);
-    let f = line_read::read_clock(bytes, size);
-    if f.ok {
-        let vector = f.vector;
-        return take_words(space, CLOCK_AT, &vector[0..size]);
+    match line_read::read_clock(bytes, size) {
+        Some(f) => take_words(space, CLOCK_AT, &f.vector[0..size]),
+        None => spoil(space),
     }
-    spoil(space)
 }
 
 // The last vector of a station, which must be the next one's and keep its rule.
@@ -63,10 +61,9 @@ pub fn take_last(space: &mut [u32], bytes: &[u8], station: Station) -> Loaded
     ensures { (result, space.new) ≡ last_taken station.0 bytes.now space.old }
 {
     let size = words_tags::wide(space[SIZE_AT]);
-    let f = line_read::read_last(bytes, size);
-    if !f.ok {
+    let Some(f) = line_read::read_last(bytes, size) else {
         return spoil(space);
-    }
+    };
     if f.station != station.0 {
         return spoil(space);
     }
@@ -75,9 +72,10 @@ pub fn take_last(space: &mut [u32], bytes: &[u8], station: Station) -> Loaded
     let own = Station(space[OWN_AT]);
     if table_rules_clock::last_ok(&vector[0..size], &space[CLOCK_AT..end], station, own) {
         let at = end + words_tags::wide(f.station) * size;
-        return take_words(space, at, &vector[0..size]);
+        take_words(space, at, &vector[0..size])
+    } else {
+        spoil(space)
     }
-    spoil(space)
 }
 
 // The total of a counter, which must be the next one's and keep its rule.
@@ -85,10 +83,9 @@ pub fn take_total(space: &mut [u32], bytes: &[u8], object: usize) -> Loaded
     requires { LoadHead space.old × (progress_in space.old ≤ most_progress) × (object < objects_in space.old) }
     ensures { (result, space.new) ≡ total_taken object bytes.now space.old }
 {
-    let f = line_read::read_total(bytes);
-    if !f.ok {
+    let Some(f) = line_read::read_total(bytes) else {
         return spoil(space);
-    }
+    };
     if words_tags::wide(f.object) != object {
         return spoil(space);
     }
@@ -100,9 +97,10 @@ pub fn take_total(space: &mut [u32], bytes: &[u8], object: usize) -> Loaded
         table_rules_clock::code_of(&total),
         bound,
     ) {
-        return take_words(space, TOTALS_AT + object * TOTAL_WORDS, &total);
+        take_words(space, TOTALS_AT + object * TOTAL_WORDS, &total)
+    } else {
+        spoil(space)
     }
-    spoil(space)
 }
 
 // A row, by its own rules and in order behind the last.
@@ -118,9 +116,10 @@ fn take_row(space: &mut [u32], f: Row) -> Loaded
     let width = KEY + size;
     if form_row::may_join(space, &row[0..width]) {
         form_row::join(space, &row[0..width]);
-        return Loaded::Taken;
+        Loaded::Taken
+    } else {
+        spoil(space)
     }
-    spoil(space)
 }
 
 // No load is under way any more: the words are a table by the rules, or nothing.
@@ -130,9 +129,10 @@ fn finish(space: &mut [u32]) -> Loaded
 {
     space[LOADING_AT] = table_rules::IDLE;
     if table_rules::is_table(space) {
-        return Loaded::Table;
+        Loaded::Table
+    } else {
+        spoil(space)
     }
-    spoil(space)
 }
 
 // The closing line, whose count must be that of the rows.
@@ -140,14 +140,10 @@ fn close(space: &mut [u32], bytes: &[u8]) -> Loaded
     requires { LoadHead space.old }
     ensures { (result, space.new) ≡ closed bytes.now space.old }
 {
-    let f = line_read::read_closing(bytes);
-    if !f.ok {
-        return spoil(space);
+    match line_read::read_closing(bytes) {
+        Some(f) if f.rows == space[COUNT_AT] => finish(space),
+        _ => spoil(space),
     }
-    if f.rows == space[COUNT_AT] {
-        return finish(space);
-    }
-    spoil(space)
 }
 
 // Once all totals are there: a row, or the closing line.
@@ -155,9 +151,8 @@ pub fn take_row_or_close(space: &mut [u32], bytes: &[u8]) -> Loaded
     requires { LoadHead space.old }
     ensures { (result, space.new) ≡ row_or_closing bytes.now space.old }
 {
-    let f = line_read::read_row(bytes, words_tags::wide(space[SIZE_AT]));
-    if f.ok {
-        return take_row(space, f);
+    match line_read::read_row(bytes, words_tags::wide(space[SIZE_AT])) {
+        Some(f) => take_row(space, f),
+        None => close(space, bytes),
     }
-    close(space, bytes)
 }

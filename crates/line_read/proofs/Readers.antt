@@ -19,21 +19,29 @@ use Rattle.line_read.specs.Named.{is_opening, is_operation, opening_of, opening_
 use Rattle.line_read.specs.declared.Operation.{Operation}
 use Rattle.meaning.specs.Table.{greatest_size}
 
+-- what an answer of a reader says
+module _ {A : Type 0} (t : Bool) (y : A) where
+  pub given : (x : A) → Some x ≡ (if t then Some y else None) → (t ≡ true) × (x ≡ y)
+  given x = go t
+    where
+      go : (t : Bool) → Some x ≡ (if t then Some y else None) → (t ≡ true) × (x ≡ y)
+      go true e = (refl, cc)
+      go false e = absurd (none-some x (sym e))
+
+  pub none_given : None ≡ (if t then Some y else None) → t ≡ false
+  none_given = go t
+    where
+      go : (t : Bool) → None ≡ (if t then Some y else None) → t ≡ false
+      go true e = absurd (none-some y e)
+      go false e = refl
+
 -- the fields of a line by their names, where it has its shape
 module _ {A : Type 0} (of : Fields → A) (t : Bool) (g : Fields) where
   pub named : (f : Fields) → Some f ≡ (if t then Some g else None) → Some (of f) ≡ (if t then Some (of g) else None)
-  named f = go t
-    where
-      go : (t : Bool) → Some f ≡ (if t then Some g else None) → Some (of f) ≡ (if t then Some (of g) else None)
-      go true e = cc
-      go false e = absurd (none-some f (sym e))
+  named f e = let w : (t ≡ true) × (f ≡ g) = given t g f e in rw (w.0, w.1) refl
 
   pub unnamed : None ≡ (if t then Some g else None) → None ≡ (if t then Some (of g) else None)
-  unnamed = go t
-    where
-      go : (t : Bool) → None ≡ (if t then Some g else None) → None ≡ (if t then Some (of g) else None)
-      go true e = absurd (none-some g e)
-      go false e = refl
+  unnamed e = rw (none_given t g e) refl
 
 -- too few bytes for a shape
 few_shape : (kind size : ℕ) (s : List ℕ) → (length s ≡ size → ⊥) → has_shape kind size s ≡ false

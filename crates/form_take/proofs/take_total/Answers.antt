@@ -1,15 +1,14 @@
-use borrow.Author.Tests.{not-true, not-false}
 use Rattle.form_take.proofs.Words.{total_misplaced, total_misshapen, total_right, total_unruly}
 use Rattle.form_take.proofs.take_total.Goals as goal
 
-pub returns-then-not-f : goal.returns-then-not-f
-returns-then-not-f c = search (total_misshapen, not-true)
+pub returns-in_default : goal.returns-in_default
+returns-in_default c = total_misshapen _ _ _ c.in_default.ensures _ _ c.spoil.ensures
 
 pub returns-then-wide-object : goal.returns-then-wide-object
-returns-then-wide-object c = search total_misplaced
+returns-then-wide-object c = let h = c.in-Some.ensures in search total_misplaced
 
 pub returns-then-total_ok : goal.returns-then-total_ok
-returns-then-total_ok c = search (total_right, not-false)
+returns-then-total_ok c = let h = c.in-Some.ensures in search total_right
 
-pub returns : goal.returns
-returns c = search total_unruly
+pub returns-else-total_ok : goal.returns-else-total_ok
+returns-else-total_ok c = let h = c.in-Some.ensures in search total_unruly
