@@ -1,3 +1,4 @@
+pub mod Shaped
 pub mod Settling
 pub mod Opening
 pub mod Asking

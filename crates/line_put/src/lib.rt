@@ -2,10 +2,12 @@
 #![tactic(auto)]
 
 ghost use Rattle.std.specs.Prelude.{◌≡◌, [], ◌+◌, ◌*◌, ◌≤◌, length};
+ghost use Rattle.refusal_number.specs.declared.Refusal.TheVariants.{NoRoom};
 ghost use Rattle.line_hex.specs.Putting.{put_at};
 ghost use Rattle.line_shape.specs.Shapes.{length_of, written};
 ghost use Rattle.line_put.specs.Writing.{line_bytes, line_written, Writable, written_each};
 
+use refusal_number::Refusal;
 use std::fmt;
 
 // The space is too short for a line, and nothing was written.
@@ -19,6 +21,15 @@ impl fmt::Display for TooShort {
 }
 
 impl std::error::Error for TooShort {}
+
+// A call refuses a space that is too short.
+impl From<TooShort> for Refusal {
+    ghost from_gives = { λ _ refusal. refusal ≡ NoRoom };
+
+    fn from(_short: TooShort) -> Refusal {
+        Refusal::NoRoom
+    }
+}
 
 // Writes fields as digits at a place, each at its width; the place behind them.
 pub fn put_fields(out: &mut [u8], at: usize, widths: &[u8], fields: &[u32]) -> usize

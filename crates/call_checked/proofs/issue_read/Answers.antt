@@ -1,15 +1,20 @@
+use Rattle.std.proofs.lemmas.Result.{err_from_is_err_and}
 use Rattle.call_checked.proofs.Issuing.{issue_refused, issue_rises, issue_framed, issue_short}
 use borrow.Author.Rules.{rules}
 use Rattle.call_checked.proofs.issue_read.Goals as goal
 
-pub returns-then-refusal-ne-NONE : goal.returns-then-refusal-ne-NONE
-returns-then-refusal-ne-NONE c = search issue_refused
+pub returns-in_err-issue_number : goal.returns-in_err-issue_number
+returns-in_err-issue_number c =
+    let p = err_from_is_err_and c.from_residual.result c.from_residual.ensures.1 in
+    rw (p.1, p.2) (issue_refused _ _ c.requires _ c.in_err-issue_number.field-0.0 c.in_err-issue_number.ensures)
 
 pub next_vector-vector-requires : goal.next_vector-vector-requires
-next_vector-vector-requires c = (search rules, search issue_rises)
+next_vector-vector-requires c = (search rules, search (issue_rises, c.in_ok-issue_number.ensures))
 
-pub returns-in-Characters : goal.returns-in-Characters
-returns-in-Characters c = search issue_framed
+pub returns-in_err-characters : goal.returns-in_err-characters
+returns-in_err-characters c =
+    let p = err_from_is_err_and c.from_residual-in_err-characters.result c.from_residual-in_err-characters.ensures.1 in
+    rw (p.1, p.2) (issue_short _ _ c.requires _ c.in_ok-issue_number.ensures _ c.wide-size.ensures.0 _ c.next_vector-vector.ensures _ c.in_err-characters.field-0.0 c.in_err-characters.ensures)
 
-pub returns-in-TooShort : goal.returns-in-TooShort
-returns-in-TooShort c = search (issue_short, rules, c.requires, c.issue_number-refusal.ensures, c.wide-size.ensures.0, c.next_vector-vector.ensures, c.write_operation.ensures, c.in-TooShort.is)
+pub returns : goal.returns
+returns c = issue_framed _ _ c.requires _ c.in_ok-issue_number.ensures _ c.wide-size.ensures.0 _ c.next_vector-vector.ensures _ _ _ c.in_ok-characters.ensures c.take_local.ensures

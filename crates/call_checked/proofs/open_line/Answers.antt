@@ -1,21 +1,18 @@
 use Rattle.line_decode.proofs.Decoding.{heard_room}
-use Rattle.call_checked.proofs.Opening.{kinds_start, open_misshapen, open_heard}
+use Rattle.call_checked.proofs.Opening.{kinds_start, misshapen, open_misshapen, open_heard}
 use Rattle.call_checked.proofs.open_line.Goals as goal
 
 pub slice_bounds-read_opening-end : goal.slice_bounds-read_opening-end
 slice_bounds-read_opening-end c = search heard_room
 
 pub slice_bounds-open_with-count : goal.slice_bounds-open_with-count
-slice_bounds-open_with-count c = search kinds_start
+slice_bounds-open_with-count c = search (kinds_start, c.in-Some.ensures)
 
 pub slice_bounds-open_with-start : goal.slice_bounds-open_with-start
-slice_bounds-open_with-start c = search kinds_start
+slice_bounds-open_with-start c = search (kinds_start, c.in-Some.ensures)
 
-pub slice_bounds-open_with-end : goal.slice_bounds-open_with-end
-slice_bounds-open_with-end c = search heard_room
+pub returns-in-Some : goal.returns-in-Some
+returns-in-Some c = search (open_heard, c.in-Some.ensures)
 
-pub returns-then-asked : goal.returns-then-asked
-returns-then-asked c = search open_heard
-
-pub returns : goal.returns
-returns c = search open_misshapen
+pub returns-in-None : goal.returns-in-None
+returns-in-None c = search (open_misshapen, misshapen, c.in-None.ensures)
