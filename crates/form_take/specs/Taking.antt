@@ -1,4 +1,5 @@
 -- A line of a saved form to a space under load: what it gets where it is the one that comes next, and the space afterwards.
+use Rattle.std.specs.Prelude.{Result, Ok, Err}
 use Rattle.std.specs.Prelude.{◌&&◌, List, [], ◌∷◌, ℕ, suc, ◌+◌, ◌-◌, ◌*◌, eqb, leb, get_or, length, replicate, set, take}
 use Rattle.std.proofs.Math.Seq.{paste}
 use Rattle.meaning.specs.Table.{total_bound, greatest_size, most_objects}
@@ -21,21 +22,21 @@ abbrev pub most_progress : ℕ
 most_progress = 2 + (greatest_size - 1) + most_objects
 
 -- "In a load every wrong line ... gets 15 ... and zeroes the table space".
-unfoldable pub spoilt : List ℕ → Loaded × List ℕ
-spoilt words = (loaded.Refused 15, replicate (length words) 0)
+unfoldable pub spoilt : List ℕ → Result Loaded ℕ × List ℕ
+spoilt words = (Err 15, replicate (length words) 0)
 
 -- New words at a place, and one more line taken.
-unfoldable pub took : List ℕ → ℕ → List ℕ → Loaded × List ℕ
-took words at new = (loaded.Taken, set (paste words at new (length new)) 6 (suc (progress_in words)))
+unfoldable pub took : List ℕ → ℕ → List ℕ → Result Loaded ℕ × List ℕ
+took words at new = (Ok loaded.Taken, set (paste words at new (length new)) 6 (suc (progress_in words)))
 
 -- `50` D
-unfoldable pub clock_taken : List ℕ → List ℕ → Loaded × List ℕ
+unfoldable pub clock_taken : List ℕ → List ℕ → Result Loaded ℕ × List ℕ
 clock_taken bytes words =
     let f = clock_read (size_in words) bytes in
     pick (is_clock (size_in words) bytes) (took words clock_at (take (size_in words) f.vector)) (spoilt words)
 
 -- `51` k, L[k], by its rule.
-unfoldable pub last_taken : ℕ → List ℕ → List ℕ → Loaded × List ℕ
+unfoldable pub last_taken : ℕ → List ℕ → List ℕ → Result Loaded ℕ × List ℕ
 last_taken station bytes words =
     let f = last_read (size_in words) bytes in
     let vector = take (size_in words) f.vector in
@@ -44,7 +45,7 @@ last_taken station bytes words =
     (spoilt words)
 
 -- `52` object, total, by its rule.
-unfoldable pub total_taken : ℕ → List ℕ → List ℕ → Loaded × List ℕ
+unfoldable pub total_taken : ℕ → List ℕ → List ℕ → Result Loaded ℕ × List ℕ
 total_taken object bytes words =
     let f = total_read bytes in
     let total = f.high ∷ f.low ∷ [] in
@@ -53,24 +54,24 @@ total_taken object bytes words =
     (spoilt words)
 
 -- `53`, by the rules of rows.
-unfoldable pub row_taken : Row → List ℕ → Loaded × List ℕ
+unfoldable pub row_taken : Row → List ℕ → Result Loaded ℕ × List ℕ
 row_taken f words =
     let row = row_said (size_in words) f in
-    pick (leb f.settled 1 && joins words row) (loaded.Taken, joined words row) (spoilt words)
+    pick (leb f.settled 1 && joins words row) (Ok loaded.Taken, joined words row) (spoilt words)
 
 -- No load is under way any more: the words are a table by the rules, or nothing.
-unfoldable pub finished : List ℕ → Loaded × List ℕ
+unfoldable pub finished : List ℕ → Result Loaded ℕ × List ℕ
 finished words =
     let whole = set words 6 0 in
-    pick (holds_table whole) (loaded.Table, whole) (spoilt words)
+    pick (holds_table whole) (Ok loaded.Table, whole) (spoilt words)
 
 -- `5f` row count
-unfoldable pub closed : List ℕ → List ℕ → Loaded × List ℕ
+unfoldable pub closed : List ℕ → List ℕ → Result Loaded ℕ × List ℕ
 closed bytes words =
     let f = closing_read bytes in
     pick (is_closing bytes && eqb f.rows (count_in words)) (finished words) (spoilt words)
 
 -- Once all totals are there: a row's line, or else the closing line.
-unfoldable pub row_or_closing : List ℕ → List ℕ → Loaded × List ℕ
+unfoldable pub row_or_closing : List ℕ → List ℕ → Result Loaded ℕ × List ℕ
 row_or_closing bytes words =
     pick (is_row (size_in words) bytes) (row_taken (row_read (size_in words) bytes) words) (closed bytes words)
