@@ -26,7 +26,7 @@ use Rattle.line_hex.specs.Choice.{pick}
 use Rattle.line_read.specs.declared.Row.{Row}
 use Rattle.line_read.specs.SavedNamed.{clock_read, closing_read, is_clock, is_closing, is_last, is_row, is_total, last_read, row_read, total_read}
 use Rattle.line_read.proofs.Vectors.{clock_vector, last_vector_lem, row_vector}
-use Rattle.line_read.specs.Named.{opening_read, is_opening}
+use Rattle.line_read.specs.Named.{is_opening}
 use Rattle.line_decode.specs.Decoding.{bytes_of, type_of}
 use Rattle.line_decode.specs.LineKinds.{kind_of}
 use Rattle.call_checked.specs.Called.{header_read, opened_as, opened_by}
@@ -310,7 +310,7 @@ module _ (line s : List ℕ) where
   opened_on = cases (eqb refusal 0)
       (λ z.
       let none : refusal ≡ 0 = eqb-true refusal 0 z in
-      rw z (fresh_under s header_of_lem (open_ranges s (space_for header_of_lem.size header_of_lem.capacity) header_of_lem refusal refl none) (open_room s (space_for header_of_lem.size header_of_lem.capacity) header_of_lem refusal refl none)))
+      rw z (fresh_under s header_of_lem (open_ranges s (space_for header_of_lem.size header_of_lem.capacity) header_of_lem (sym none)) (open_room s (space_for header_of_lem.size header_of_lem.capacity) header_of_lem (sym none))))
       (λ z. rw z tt)
 
   begun_on : GoesOn (begun (opened_by line s))

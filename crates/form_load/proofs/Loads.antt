@@ -11,7 +11,7 @@ use Rattle.meaning.specs.Calls as meaning
 use Rattle.words_layout.specs.Layout.{holds_table, space_for, words_of}
 use Rattle.line_hex.specs.Choice.{pick}
 use Rattle.words_tags.specs.declared.Station.{Station}
-use Rattle.line_read.specs.Named.{opening_read, is_opening}
+use Rattle.line_read.specs.Named.{is_opening}
 use Rattle.line_decode.specs.Decoding.{bytes_of, decoded_into, type_of}
 use Rattle.line_decode.specs.LineKinds.{kind_of}
 use Rattle.line_decode.specs.declared.LineKind.{LineKind}

@@ -14,7 +14,7 @@ use Rattle.table_rules.specs.TableTests.{clock_in, kinds_in}
 use Rattle.table_rules.proofs.Holding.{table_headed}
 use Rattle.table_rules_clock.specs.ClockTests.{last_kept, total_kept}
 use Rattle.line_hex.specs.Choice.{pick}
-use Rattle.line_read.specs.Named.{opening_read, is_opening}
+use Rattle.line_read.specs.Named.{is_opening}
 use Rattle.line_read.specs.declared.Row.{Row}
 use Rattle.line_read.specs.SavedNamed.{clock_read, closing_read, is_clock, is_closing, is_last, is_row, is_total, last_read, row_read, total_read}
 use Rattle.line_decode.specs.Decoding.{bytes_of, type_of}

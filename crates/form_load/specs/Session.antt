@@ -1,5 +1,5 @@
 -- The definition computed on lines written as texts: forms that load, and for each rule that a line can break lines that break it, beside lines that keep it.
-use Rattle.std.specs.Prelude.{Result, Ok, Err, None}
+use Rattle.std.specs.Prelude.{Result, Ok, Err}
 use Rattle.std.specs.Prelude.{◌≡◌, refl, List, [], ◌∷◌, ◌++◌, map, ℕ, pos, negsuc, length, replicate, take}
 use Prim.Native.String.{String}
 use Rattle.meaning.specs.Computing.{all_words}
@@ -9,11 +9,11 @@ use Rattle.meaning.specs.Papers.{session_saved}
 use Rattle.line_hex.specs.Decoding.{is_line, just_lf, pair_of, pairs}
 use Rattle.line_hex.specs.Hex.{is_digit, value_of}
 use Rattle.line_hex.specs.Numbers.{number_from}
-use Rattle.line_shape.specs.Reading.{entries, fields_read, has_shape, padded, starts_with}
+use Rattle.line_shape.specs.Reading.{entries, fields_read, has_shape, padded, starts_with, is_shaped}
 use Rattle.line_shape.specs.Shapes.{length_of, read}
-use Rattle.line_read.specs.Named.{opening_read}
-use Rattle.line_read.specs.Types.{is_of, line_read}
-use Rattle.line_read.specs.SavedNamed.{clock_read, closing_read, last_read, row_read, total_read}
+use Rattle.line_read.specs.Named.{is_opening, opening_read}
+use Rattle.line_read.specs.Types.{is_line_of, is_of, line_read}
+use Rattle.line_read.specs.SavedNamed.{clock_read, closing_read, is_clock, is_closing, is_last, is_row, is_total, last_read, row_read, total_read}
 use Rattle.line_decode.specs.Decoding.{bytes_of, type_of}
 use Rattle.line_decode.specs.LineKinds.{kind_of}
 use Rattle.line_decode.specs.Text.{characters, line_saying}
@@ -74,7 +74,7 @@ Right words cases = map (λ (c : Case). seen (loaded_by c.given words)) cases �
 
 -- Which definitions are computed with; a group has no meaning of its own.
 unfoldable pub line_words : ℕ
-unfolding pair_of pairs just_lf is_line value_of is_digit number_from padded entries starts_with has_shape fields_read length_of read opening_read is_of line_read clock_read last_read total_read row_read closing_read bytes_of type_of kind_of characters line_saying
+unfolding pair_of pairs just_lf is_line value_of is_digit number_from padded entries starts_with has_shape fields_read length_of read opening_read is_of is_line_of is_shaped is_opening is_clock is_last is_total is_row is_closing line_read clock_read last_read total_read row_read closing_read bytes_of type_of kind_of characters line_saying
 line_words = 0
 
 unfoldable pub word_words : ℕ

@@ -34,6 +34,7 @@ pub enum Next {
 }
 
 // What comes next behind the last vectors.
+#[tactic(auto, unfolding(crate::specs::Loading::behind_lasts))]
 fn behind_lasts(found: Result<usize, usize>) -> Next
     ensures { result ≡ behind_lasts found }
 {
@@ -65,6 +66,7 @@ fn next_in(space: &[u32]) -> Next
 }
 
 // Whether something comes next, with no row taken before its turn.
+#[tactic(auto, unfolding(crate::specs::Loading::waits))]
 fn waits_for(next: Next, rows: RowCount) -> bool
     ensures { result ≡ waits next rows.0 }
 {
