@@ -13,40 +13,7 @@ use Rattle.words_layout.specs.Layout.{table_mark, space_for, size_in, own_in, ca
 use Rattle.table_rules.specs.TableTests.{sizes_kept, head_kept, Headed}
 use Rattle.meaning.specs.Table.{greatest_size, greatest_capacity, most_objects}
 
--- the numbers of the head: a test that fails decides, whatever the ones before it say
-past_two : (a b : Bool) → false ≡ (a && (b && false))
-past_two true b = sym (and-false b)
-past_two false b = refl
-
-past_three : (a b c : Bool) → false ≡ (a && (b && (c && false)))
-past_three true b c = past_two b c
-past_three false b c = refl
-
-module _ (size own capacity objects count : ℕ) where
-  pub sizes_size : (a : Bool) → a ≡ between 1 greatest_size size → a ≡ false → false ≡ sizes_kept size own capacity objects count
-  unfolding sizes_kept
-  sizes_size a e h = rw (sym e ∙ h) refl
-
-  pub sizes_own : size ≤ own → false ≡ sizes_kept size own capacity objects count
-  unfolding sizes_kept
-  sizes_own h = rw (le-ltb own size h) (sym (and-false (between 1 greatest_size size)))
-
-  pub sizes_capacity : (b : Bool) → b ≡ between 1 (greatest_capacity size) capacity → b ≡ false → false ≡ sizes_kept size own capacity objects count
-  unfolding sizes_kept
-  sizes_capacity b e h = rw (sym e ∙ h) (past_two (between 1 greatest_size size) (ltb own size))
-
-  pub sizes_objects : (c : Bool) → c ≡ between 1 most_objects objects → c ≡ false → false ≡ sizes_kept size own capacity objects count
-  unfolding sizes_kept
-  sizes_objects c e h = rw (sym e ∙ h) (past_three (between 1 greatest_size size) (ltb own size) (between 1 (greatest_capacity size) capacity))
-
--- a test that did not leave
-pub passed_test : (r x : Bool) → r ≡ x → not r ≡ false → x ≡ true
-passed_test r x e h = sym e ∙ not-false r h
-
-pub sizes_count : (size own capacity objects count : ℕ) → between 1 greatest_size size ≡ true → own < size → between 1 (greatest_capacity size) capacity ≡ true → between 1 most_objects objects ≡ true → leb count capacity ≡ sizes_kept size own capacity objects count
-unfolding sizes_kept
-sizes_count size own capacity objects count a o b c = rw (a, lt-ltb own size o, b, c) refl
-
+-- the numbers of the head
 pub record Sizes (size own capacity objects count : ℕ) : Type 0 where
   pub some : 1 ≤ size
   pub few : size ≤ greatest_size
@@ -94,26 +61,6 @@ module _ (s : List ℕ) (r : Bool) (e : r ≡ sizes_kept (get_or s 1 0) (get_or 
 
   pub head_small : get_or s 3 0 ≤ greatest_capacity (get_or s 1 0)
   head_small = (sizes_out (get_or s 1 0) (get_or s 2 0) (get_or s 3 0) (get_or s 4 0) (get_or s 5 0) (sym e ∙ h)).small
-
-module _ (s : List ℕ) where
-  pub head_mark : (get_or s 0 0 ≡ 1919904876 → ⊥) → false ≡ head_kept s
-  unfolding head_kept
-  head_mark h = rw (ne_eqb (get_or s 0 0) 1919904876 h) refl
-
-  module _ (m : get_or s 0 0 ≡ 1919904876) where
-    pub head_loading : (get_or s 6 0 ≡ 0 → ⊥) → false ≡ head_kept s
-    unfolding head_kept
-    head_loading h = rw (eq-eqb (get_or s 0 0) 1919904876 m, ne_eqb (get_or s 6 0) 0 h) refl
-
-    module _ (i : get_or s 6 0 ≡ 0) (r : Bool) (e : r ≡ sizes_kept (get_or s 1 0) (get_or s 2 0) (get_or s 3 0) (get_or s 4 0) (get_or s 5 0)) where
-      pub head_sizes : r ≡ false → false ≡ head_kept s
-      unfolding head_kept
-      head_sizes h = rw (eq-eqb (get_or s 0 0) 1919904876 m, eq-eqb (get_or s 6 0) 0 i, sym e ∙ h) refl
-
-      module _ (h : r ≡ true) where
-        pub head_room : (b : Bool) → b ≡ leb (space_for (get_or s 1 0) (get_or s 3 0)) (length s) → b ≡ head_kept s
-        unfolding head_kept
-        head_room b q = rw (eq-eqb (get_or s 0 0) 1919904876 m, eq-eqb (get_or s 6 0) 0 i, sym e ∙ h) q
 
 -- the room, at a size that equals the head's
 pub room_there : (s : List ℕ) (n p : ℕ) → n ≡ get_or s 1 0 → p ≡ space_for n (get_or s 3 0) → leb p (length s) ≡ leb (space_for (get_or s 1 0) (get_or s 3 0)) (length s)

@@ -21,9 +21,9 @@ module _ (s : List ℕ) (o : ℕ) (eo : o ≡ get_or s 4 0) (r : Bool) (er : r �
   kinds_told : r ≡ every (between 1 9) (take (get_or s 4 0) (drop 7 s))
   kinds_told = let q : 7 + o - 7 ≡ get_or s 4 0 = omega arith in er ∙ ap (λ (n : ℕ). every (between 1 9) (take n (drop 7 s))) q
 
-  pub kinds_wrong : r ≡ false → false ≡ kinds_kept s
+  pub kinds_wrong : r ≡ false → r ≡ kinds_kept s
   unfolding kinds_kept
-  kinds_wrong h = rw (sym kinds_told ∙ h) refl
+  kinds_wrong h = h ∙ rw (sym kinds_told ∙ h) refl
 
   pub kinds_beyond : r ≡ true → (z : Bool) → z ≡ all_zero (take (totals_at - (7 + o)) (drop (7 + o) s)) → z ≡ kinds_kept s
   unfolding kinds_kept
@@ -54,9 +54,9 @@ module _ (s : List ℕ) (H : Headed s) where
     totals_told : r ≡ every_at (total_kept_at (total_bound (clock_in s)) (kinds_in s)) 0 (pieces 2 (objects_in s) (drop totals_at s))
     totals_told = er ∙ rw (kinds_are o eo, kinds_long, eb, clock_is n en, rest_is s totals_at) refl
 
-    pub totals_wrong : r ≡ false → false ≡ totals_kept s
+    pub totals_wrong : r ≡ false → r ≡ totals_kept s
     unfolding totals_kept
-    totals_wrong h = rw (sym totals_told ∙ h) refl
+    totals_wrong h = h ∙ rw (sym totals_told ∙ h) refl
 
     pub totals_beyond : r ≡ true → (z : Bool) → z ≡ all_zero (take (clock_at - (totals_at + o * 2)) (drop (totals_at + o * 2) s)) → z ≡ totals_kept s
     unfolding totals_kept
@@ -100,28 +100,3 @@ module _ (s : List ℕ) (H : Headed s) where
       unused_told z e =
           let q : space_for (get_or s 1 0) (get_or s 3 0) - space_for (get_or s 1 0) (get_or s 5 0) ≡ capacity_in s * (7 + size_in s) - count_in s * (7 + size_in s) = omega arith in
           e ∙ rw (ef, et, en) (ap (λ (m : ℕ). all_zero (take m (drop (space_for (get_or s 1 0) (get_or s 5 0)) s))) q)
-
--- all the parts
-module _ (s : List ℕ) (a : Bool) (ea : a ≡ kinds_kept s) where
-  pub parts_kinds : a ≡ false → false ≡ parts_kept s
-  unfolding parts_kept
-  parts_kinds h = rw (sym ea ∙ h) refl
-
-  module _ (ha : a ≡ true) (b : Bool) (eb : b ≡ totals_kept s) where
-    pub parts_totals : b ≡ false → false ≡ parts_kept s
-    unfolding parts_kept
-    parts_totals h = rw (sym ea ∙ ha, sym eb ∙ h) refl
-
-    module _ (hb : b ≡ true) (c : Bool) (ec : c ≡ lasts_kept s) where
-      pub parts_lasts : c ≡ false → false ≡ parts_kept s
-      unfolding parts_kept
-      parts_lasts h = rw (sym ea ∙ ha, sym eb ∙ hb, sym ec ∙ h) refl
-
-      module _ (hc : c ≡ true) (d : Bool) (ed : d ≡ rows_kept (kinds_in s) (clock_in s) (rows_in s)) where
-        pub parts_rows : d ≡ false → false ≡ parts_kept s
-        unfolding parts_kept
-        parts_rows h = rw (sym ea ∙ ha, sym eb ∙ hb, sym ec ∙ hc, sym ed ∙ h) refl
-
-        pub parts_unused : d ≡ true → (z : Bool) → z ≡ unused_kept s → z ≡ parts_kept s
-        unfolding parts_kept
-        parts_unused h z e = rw (sym ea ∙ ha, sym eb ∙ hb, sym ec ∙ hc, sym ed ∙ h) e

@@ -22,35 +22,18 @@ pub const IDLE: u32 = 0;
 pub fn all_in_range(words: &[u32], least: u32, greatest: u32) -> bool
     ensures { result ≡ every (between least greatest) words.now }
 {
-    let mut good = true;
-    let mut i = 0;
-    while i < words.len() {
-        if !table_ranges::in_range(words[i], least, greatest) {
-            good = false;
-        }
-        i += 1;
-    }
-    good
+    words_tags::every(words, |word| table_ranges::in_range(*word, least, greatest))
 }
 
 // Whether the head's numbers are in range.
 pub fn sizes_ok(size: u32, own: Station, capacity: RowCount, objects: u32, count: RowCount) -> bool
     ensures { result ≡ sizes_kept size own.0 capacity.0 objects count.0 }
 {
-    let most = capacity.0;
-    if !table_ranges::in_range(size, 1, meaning::GREATEST_SIZE) {
-        return false;
-    }
-    if size <= own.0 {
-        return false;
-    }
-    if !table_ranges::capacity_ok(size, capacity) {
-        return false;
-    }
-    if !table_ranges::in_range(objects, 1, meaning::GREATEST_COUNT) {
-        return false;
-    }
-    count.0 <= most
+    table_ranges::in_range(size, 1, meaning::GREATEST_SIZE)
+        && own.0 < size
+        && table_ranges::capacity_ok(size, capacity)
+        && table_ranges::in_range(objects, 1, meaning::GREATEST_COUNT)
+        && count.0 <= capacity.0
 }
 
 // Whether the words are enough for the table that the head describes.
@@ -66,22 +49,16 @@ fn head_ok(s: &[u32]) -> bool
     requires { clock_at ≤ length s.now }
     ensures { result ≡ head_kept s.now }
 {
-    if s[MARK_AT] != TABLE_MARK {
-        return false;
-    }
-    if s[LOADING_AT] != IDLE {
-        return false;
-    }
-    if sizes_ok(
-        s[SIZE_AT],
-        Station(s[OWN_AT]),
-        RowCount(s[CAPACITY_AT]),
-        s[OBJECTS_AT],
-        RowCount(s[COUNT_AT]),
-    ) {
-        return has_room(s);
-    }
-    false
+    s[MARK_AT] == TABLE_MARK
+        && s[LOADING_AT] == IDLE
+        && sizes_ok(
+            s[SIZE_AT],
+            Station(s[OWN_AT]),
+            RowCount(s[CAPACITY_AT]),
+            s[OBJECTS_AT],
+            RowCount(s[COUNT_AT]),
+        )
+        && has_room(s)
 }
 
 // Whether the kinds are known ones, with zeros after them.
@@ -90,10 +67,8 @@ fn kinds_ok(s: &[u32]) -> bool
     ensures { result ≡ kinds_kept s.now }
 {
     let end = KINDS_AT + words_tags::wide(s[OBJECTS_AT]);
-    if all_in_range(&s[KINDS_AT..end], 1, meaning::GREATEST_KIND) {
-        return table_rules_rows::all_zero(&s[end..TOTALS_AT]);
-    }
-    false
+    all_in_range(&s[KINDS_AT..end], 1, meaning::GREATEST_KIND)
+        && table_rules_rows::all_zero(&s[end..TOTALS_AT])
 }
 
 // Whether the totals are within the bound that the clock sets, with zeros after them.
@@ -106,10 +81,8 @@ fn totals_ok(s: &[u32]) -> bool
     let totals_end = TOTALS_AT + objects * TOTAL_WORDS;
     let clock_end = CLOCK_AT + words_tags::wide(s[SIZE_AT]);
     let bound = table_rules_clock::total_bound(&s[CLOCK_AT..clock_end]);
-    if table_rules_clock::each_total_ok(&s[KINDS_AT..kinds_end], &s[TOTALS_AT..], bound) {
-        return table_rules_rows::all_zero(&s[totals_end..CLOCK_AT]);
-    }
-    false
+    table_rules_clock::each_total_ok(&s[KINDS_AT..kinds_end], &s[TOTALS_AT..], bound)
+        && table_rules_rows::all_zero(&s[totals_end..CLOCK_AT])
 }
 
 // Whether the vectors of the last frames accepted are what the clock allows.
@@ -155,30 +128,12 @@ fn parts_ok(s: &[u32]) -> bool
     requires { Headed s.now }
     ensures { result ≡ parts_kept s.now }
 {
-    if !kinds_ok(s) {
-        return false;
-    }
-    if !totals_ok(s) {
-        return false;
-    }
-    if !lasts_ok(s) {
-        return false;
-    }
-    if !rows_kept(s) {
-        return false;
-    }
-    unused_ok(s)
+    kinds_ok(s) && totals_ok(s) && lasts_ok(s) && rows_kept(s) && unused_ok(s)
 }
 
 // Whether the words hold a table by the table rules, whatever they are and however many.
 pub fn is_table(s: &[u32]) -> bool
     ensures { result ≡ holds_table s.now }
 {
-    if s.len() < CLOCK_AT {
-        return false;
-    }
-    if head_ok(s) {
-        return parts_ok(s);
-    }
-    false
+    CLOCK_AT <= s.len() && head_ok(s) && parts_ok(s)
 }

@@ -7,7 +7,7 @@ ghost use Rattle.meaning.specs.Table.{sum_of_entries, total_bound, greatest_size
 ghost use Rattle.words_layout.specs.Words.{of_complement, of_two_words, pieces, word_limit};
 ghost use Rattle.table_rules_clock.specs.ClockTests.{last_kept, total_kept, total_kept_at};
 
-use table_kinds::{GROW_COUNTER, UP_DOWN_COUNTER};
+use table_kinds::Kind;
 use words_layout::TOTAL_WORDS;
 use words_tags::Station;
 
@@ -25,23 +25,14 @@ const TOTAL_HIGH_AT: usize = 0;
 
 const TOTAL_LOW_AT: usize = 1;
 
-// A word as a longer number, with its bound, so that no caller has to show that it fits.
-fn long(x: u32) -> u64
-    ensures { (result ≡ x) × (result < word_limit) }
-{
-    x as u64
-}
-
 // The sum of a clock's entries.
 fn sum_of(clock: &[u32]) -> u64
     requires { length clock.now ≤ greatest_size }
     ensures { (result ≡ sum_of_entries clock.now) × (result ≤ greatest_size * word_limit) }
 {
     let mut sum: u64 = 0;
-    let mut i = 0;
-    while i < clock.len() {
-        sum += long(clock[i]);
-        i += 1;
+    for entry in clock {
+        sum += u64::from(*entry);
     }
     sum
 }
@@ -59,26 +50,20 @@ pub fn code_of(words: &[u32]) -> u64
     requires { length words.now ≡ 2 }
     ensures { result ≡ of_two_words (get_or words.now 0 0) (get_or words.now 1 0) }
 {
-    long(words[TOTAL_HIGH_AT]) * WORD_LIMIT + long(words[TOTAL_LOW_AT])
+    u64::from(words[TOTAL_HIGH_AT]) * WORD_LIMIT + u64::from(words[TOTAL_LOW_AT])
 }
 
 // Whether an object of this kind may have the total of this code.
 pub fn total_ok(kind: u32, code: u64, bound: u64) -> bool
     ensures { result ≡ total_kept bound kind (of_complement code) }
 {
-    if code < NEGATIVE_FROM {
-        if kind == GROW_COUNTER {
-            return code <= bound;
-        }
-        if kind == UP_DOWN_COUNTER {
-            return code <= bound;
-        }
-        return code == 0;
+    let negative = NEGATIVE_FROM <= code;
+    match Kind::try_from(kind) {
+        Ok(Kind::GrowCounter) => !negative && code <= bound,
+        Ok(Kind::UpDownCounter) if negative => GREATEST_CODE - code < bound,
+        Ok(Kind::UpDownCounter) => code <= bound,
+        _ => code == 0,
     }
-    if kind != UP_DOWN_COUNTER {
-        return false;
-    }
-    GREATEST_CODE - code < bound
 }
 
 // Whether each object may have its total.
@@ -86,18 +71,11 @@ pub fn each_total_ok(kinds: &[u32], totals: &[u32], bound: u64) -> bool
     requires { length kinds.now * 2 ≤ length totals.now }
     ensures { result ≡ every_at (total_kept_at bound kinds.now) 0 (pieces 2 (length kinds.now) totals.now) }
 {
-    let mut good = true;
-    let mut k = 0;
-    let mut at = 0;
-    while k < kinds.len() {
-        let end = at + TOTAL_WORDS;
-        if !total_ok(kinds[k], code_of(&totals[at..end]), bound) {
-            good = false;
-        }
-        k += 1;
-        at = end;
-    }
-    good
+    let totals = totals[..kinds.len() * TOTAL_WORDS].chunks_exact(TOTAL_WORDS);
+    kinds
+        .iter()
+        .zip(totals)
+        .all(|(kind, words)| total_ok(*kind, code_of(words), bound))
 }
 
 // Whether one station's vector of the last frame accepted is what the clock allows.
@@ -105,13 +83,12 @@ pub fn last_ok(vector: &[u32], clock: &[u32], station: Station, own: Station) ->
     requires { length vector.now ≡ length clock.now }
     ensures { result ≡ last_kept own.0 clock.now station.0 vector.now }
 {
-    if station.0 == own.0 {
-        return table_rules_rows::all_zero(vector);
+    if station == own {
+        table_rules_rows::all_zero(vector)
+    } else {
+        words_tags::number_at(vector, station) == words_tags::number_at(clock, station)
+            && words_tags::at_most(vector, clock)
     }
-    if words_tags::number_at(vector, station).0 != words_tags::number_at(clock, station).0 {
-        return false;
-    }
-    words_tags::at_most(vector, clock)
 }
 
 // Whether each station's is.
@@ -119,17 +96,13 @@ pub fn each_last_ok(lasts: &[u32], clock: &[u32], own: Station) -> bool
     requires { length clock.now * length clock.now ≤ length lasts.now }
     ensures { result ≡ every_at (last_kept own.0 clock.now) 0 (pieces (length clock.now) (length clock.now) lasts.now) }
 {
-    let mut good = true;
-    let mut k = 0;
-    let mut at = 0;
-    while k < clock.len() {
-        let end = at + clock.len();
-        let station = k as u32;
-        if !last_ok(&lasts[at..end], clock, Station(station), own) {
-            good = false;
+    let size = clock.len();
+    for station in 0..size {
+        let start = station * size;
+        let last = &lasts[start..start + size];
+        if !last_ok(last, clock, Station(station as u32), own) {
+            return false;
         }
-        k += 1;
-        at = end;
     }
-    good
+    true
 }

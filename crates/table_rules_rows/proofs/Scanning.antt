@@ -1,4 +1,4 @@
--- Tests of every word, and of every piece of one width, by loops that note a fault and never leave early.
+-- A test of every piece of one width, each at its place.
 use Prim.Native.Nat.{ℕ, suc, ◌+◌, ◌-◌, ◌*◌, ◌≤◌, ◌<◌}
 use mathlib.Core.Path.{◌≡◌, refl, sym, ap, ◌∙◌}
 use mathlib.Core.Bool.{Bool, true, false, ◌&&◌, and-true, and-false}
@@ -14,46 +14,6 @@ use lib.ListN.{length, get_or, take, drop, drop_of_length-le, length-drop}
 use lib.Seq.{drop-cons, drop-drop, length-take-le}
 use Rattle.meaning.specs.Tests.{every, every_at}
 use Rattle.words_layout.specs.Words.{all_zero, pieces}
-
--- i words are passed: what was noted and the test of the rest make the test of all
-pub record Scanned (one : ℕ → Bool) (s : List ℕ) (good : Bool) (i : ℕ) : Type 0 where
-  pub within : i ≤ length s
-  pub whole : (good && every one (drop i s)) ≡ every one s
-
-pub scan_start : (one : ℕ → Bool) (s : List ℕ) → Scanned one s true 0
-scan_start one s = record { within = omega arith; whole = refl }
-
-module _ (one : ℕ → Bool) (s : List ℕ) (good : Bool) (i : ℕ) (S : Scanned one s good i) where
-  module _ (h : i < length s) (r : Bool) (e : r ≡ one (get_or s i 0)) where
-    next_word : (good && (r && every one (drop (suc i) s))) ≡ every one s
-    next_word = rw e (rw (drop-cons s i 0 h) at S.whole)
-
-    pub word_fails : (noted : Bool) → noted ≡ false → r ≡ false → Scanned one s noted (i + 1)
-    word_fails noted n f = rw n (record { within = omega arith; whole = sym (and-false good) ∙ (rw f at next_word) })
-
-    pub word_holds : (noted : Bool) → noted ≡ good → r ≡ true → Scanned one s noted (i + 1)
-    word_holds noted n f = rw n (record { within = omega arith; whole = rw (add-one i) (rw f at next_word) })
-
-  pub scan_done : length s ≤ i → good ≡ every one s
-  scan_done h = sym (and-true good) ∙ (rw (drop_of_length-le s {i = i} h) at S.whole)
-
--- all words 0
-abbrev pub is_zero : ℕ → Bool
-is_zero word = eqb word 0
-
-every_zero : (s : List ℕ) → every is_zero s ≡ all_zero s
-every_zero [] = refl
-every_zero (x ∷ s) = ap (λ (b : Bool). is_zero x && b) (every_zero s)
-
-module _ (s : List ℕ) (good : Bool) (i : ℕ) (S : Scanned is_zero s good i) where
-  pub zero_fails : i < length s → (noted : Bool) → noted ≡ false → (get_or s i 0 ≡ 0 → ⊥) → Scanned is_zero s noted (i + 1)
-  zero_fails h noted n f = word_fails is_zero s good i S h (is_zero (get_or s i 0)) refl noted n (ne_eqb (get_or s i 0) 0 f)
-
-  pub zero_holds : i < length s → (noted : Bool) → noted ≡ good → get_or s i 0 ≡ 0 → Scanned is_zero s noted (i + 1)
-  zero_holds h noted n f = word_holds is_zero s good i S h (is_zero (get_or s i 0)) refl noted n (eq-eqb (get_or s i 0) 0 f)
-
-  pub zero_done : length s ≤ i → good ≡ all_zero s
-  zero_done h = scan_done is_zero s good i S h ∙ every_zero s
 
 -- k pieces of `count` are passed, up to place `at`: what was noted and the test of the rest make the test of all, each at its place
 pub record Passed (one : ℕ → List ℕ → Bool) (w count : ℕ) (s : List ℕ) (good : Bool) (k at : ℕ) : Type 0 where
@@ -99,10 +59,10 @@ pass_done one w count s good k at P h =
     let none : count - k ≡ 0 = omega arith in
     sym (and-true good) ∙ (rw none at P.whole)
 
--- a test that does not ask for the place
-abbrev pub anywhere : (List ℕ → Bool) → ℕ → List ℕ → Bool
-anywhere one k = one
+-- the next piece, in a loop that leaves at the first fault
+module _ (one : ℕ → List ℕ → Bool) (w count : ℕ) (s : List ℕ) (k : ℕ) (P : Passed one w count s true k (k * w)) (h : k < count) (r : Bool) (e : r ≡ one k (take (k * w + w - k * w) (drop (k * w) s))) where
+  pub next_holds : r ≡ true → Passed one w count s true (k + 1) ((k + 1) * w)
+  next_holds t = rw (sym (next_here one w count s true k (k * w) P h)) (piece_holds one w count s true k (k * w) P h r e true refl t)
 
-pub every_anywhere : (one : List ℕ → Bool) (k : ℕ) (l : List (List ℕ)) → every_at (anywhere one) k l ≡ every one l
-every_anywhere one k [] = refl
-every_anywhere one k (x ∷ l) = ap (λ (b : Bool). one x && b) (every_anywhere one (suc k) l)
+  pub next_fails : r ≡ false → false ≡ every_at one 0 (pieces w count s)
+  next_fails t = (piece_fails one w count s true k (k * w) P h r e false refl t).whole

@@ -1,19 +1,21 @@
-use Rattle.table_rules.proofs.Heading.{head_mark, head_loading, head_sizes, head_few, head_small, head_room}
-use native.Mathlib.Omega.{arith}
-use borrow.Author.Rules.{rules}
+use Rattle.std.proofs.Common.{◌∙◌, sym, arith, rules}
+use Rattle.std.proofs.lemmas.Bool.Decides.{nat_tests}
+use Rattle.table_rules.specs.TableTests.{head_kept}
+use Rattle.table_rules.proofs.Heading.{head_few, head_small}
 use Rattle.table_rules.proofs.head_ok.Goals as goal
-
-pub returns-then-s-ne-TABLE_MARK : goal.returns-then-s-ne-TABLE_MARK
-returns-then-s-ne-TABLE_MARK c = search head_mark
-
-pub returns-then-s-ne-IDLE : goal.returns-then-s-ne-IDLE
-returns-then-s-ne-IDLE c = head_loading _ (search rules) (λ z. omega arith)
-
-pub has_room-requires : goal.has_room-requires
-has_room-requires c = (search rules, search head_few, search head_small)
+use Rattle.table_rules.proofs.head_ok.Goals.{then-s-eq-IDLE, else-s-eq-IDLE}
 
 pub returns-then-sizes_ok : goal.returns-then-sizes_ok
-returns-then-sizes_ok c = search head_room
+unfolding head_kept
+returns-then-sizes_ok c = grind (arith, nat_tests)
 
-pub returns : goal.returns
-returns c = search head_sizes
+pub returns-else-sizes_ok : goal.returns-else-sizes_ok
+unfolding head_kept
+returns-else-sizes_ok c = grind (arith, nat_tests)
+
+pub has_room-requires : goal.has_room-requires
+has_room-requires c =
+    elim c.if-s-eq-IDLE.branch [
+      then-s-eq-IDLE w ↦ let true_there = sym w.value-is ∙ c.if-sizes_ok.true in (search rules, head_few c.args.s.now _ w.sizes_ok.ensures true_there, head_small c.args.s.now _ w.sizes_ok.ensures true_there)
+    | else-s-eq-IDLE w ↦ grind (arith, nat_tests)
+    ]

@@ -1,14 +1,14 @@
+use Rattle.std.proofs.Common.{sym, ◌∙◌, arith}
+use Rattle.std.proofs.lemmas.Bool.Decides.{nat_tests}
 use Rattle.table_rules.proofs.Holding.{held_short, held_head, told_headed, held_parts}
 use Rattle.table_rules.proofs.is_table.Goals as goal
-
-pub returns-then-s-lt-CLOCK_AT : goal.returns-then-s-lt-CLOCK_AT
-returns-then-s-lt-CLOCK_AT c = search held_short
+use Rattle.table_rules.proofs.is_table.Goals.{then-s-ge-CLOCK_AT, else-s-ge-CLOCK_AT}
 
 pub parts_ok-requires : goal.parts_ok-requires
-parts_ok-requires c = search told_headed
+parts_ok-requires c = elim c.if-s-ge-CLOCK_AT.branch [ then-s-ge-CLOCK_AT w ↦ told_headed _ _ w.head_ok.ensures (sym w.value-is ∙ c.if-head_ok.true) | else-s-ge-CLOCK_AT w ↦ grind (arith, nat_tests) ]
 
 pub returns-then-head_ok : goal.returns-then-head_ok
-returns-then-head_ok c = search held_parts
+returns-then-head_ok c = elim c.if-s-ge-CLOCK_AT.branch [ then-s-ge-CLOCK_AT w ↦ held_parts _ _ w.head_ok.ensures (sym w.value-is ∙ c.if-head_ok.true) c.type_inv.s _ c.parts_ok.ensures | else-s-ge-CLOCK_AT w ↦ grind (arith, nat_tests) ]
 
-pub returns : goal.returns
-returns c = search held_head
+pub returns-else-head_ok : goal.returns-else-head_ok
+returns-else-head_ok c = elim c.if-s-ge-CLOCK_AT.branch [ then-s-ge-CLOCK_AT w ↦ c.if-head_ok.false ∙ held_head _ _ w.head_ok.ensures (sym w.value-is ∙ c.if-head_ok.false) | else-s-ge-CLOCK_AT w ↦ c.if-head_ok.false ∙ held_short _ w.if-s-ge-CLOCK_AT.false ]

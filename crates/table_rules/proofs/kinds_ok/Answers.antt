@@ -4,5 +4,5 @@ use Rattle.table_rules.proofs.kinds_ok.Goals as goal
 pub returns-then-all_in_range : goal.returns-then-all_in_range
 returns-then-all_in_range c = search kinds_beyond
 
-pub returns : goal.returns
-returns c = search kinds_wrong
+pub returns-else-all_in_range : goal.returns-else-all_in_range
+returns-else-all_in_range c = search kinds_wrong

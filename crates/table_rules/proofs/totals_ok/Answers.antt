@@ -4,5 +4,5 @@ use Rattle.table_rules.proofs.totals_ok.Goals as goal
 pub returns-then-each_total_ok : goal.returns-then-each_total_ok
 returns-then-each_total_ok c = search totals_beyond
 
-pub returns : goal.returns
-returns c = search totals_wrong
+pub returns-else-each_total_ok : goal.returns-else-each_total_ok
+returns-else-each_total_ok c = search totals_wrong

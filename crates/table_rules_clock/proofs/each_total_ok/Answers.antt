@@ -1,27 +1,29 @@
-use Rattle.table_rules_clock.proofs.Totals.{total_fails, total_holds}
-use borrow.Author.Tests.{not-true, not-false}
-use Rattle.table_rules_rows.proofs.Scanning.{pass_start, piece_room, end_fits, start_fits, piece_long, pass_done}
-use native.Mathlib.Omega.{arith}
+use Rattle.std.proofs.Common.{◌∙◌, ◌*◌, ◌≤◌, length, arith, rules}
+use borrow.Author.Tests.{tests}
+use Rattle.std.proofs.lemmas.Iterator.{YieldsList-from_slice, YieldsList-from_zip}
+use Rattle.std.proofs.lemmas.Iterator.Adapters.{serves_from_places}
+use Rattle.std.proofs.lemmas.Iterator.Consumers.{YieldsList-at}
+use Rattle.meaning.proofs.Chains.{every_from_all}
+use Rattle.words_layout.specs.Words.{pieces}
+use Rattle.words_layout.specs.Layout.{total_of_words}
+use Rattle.words_layout.proofs.Pieces.{length_pieces, wide_pieces}
+use Rattle.words_layout.proofs.Chunks.{YieldsList-from_pieces}
+use Rattle.table_rules_clock.specs.ClockTests.{total_kept}
+use Rattle.table_rules_clock.proofs.Totals.{paired, paired_wide}
 use Rattle.table_rules_clock.proofs.each_total_ok.Goals as goal
-use Rattle.table_rules_clock.proofs.each_total_ok.Goals.{else-not-total_ok, then-not-total_ok}
 
-pub loop-k-init : goal.loop-k-init
-loop-k-init c = search pass_start
-
-pub overflow_add-end : goal.overflow_add-end
-overflow_add-end c = search (end_fits, arith)
-
-pub offset_bounds-totals-at : goal.offset_bounds-totals-at
-offset_bounds-totals-at c = search (start_fits, arith)
-
-pub slice_bounds-code_of-end : goal.slice_bounds-code_of-end
-slice_bounds-code_of-end c = search piece_room
-
-pub code_of-requires : goal.code_of-requires
-code_of-requires c = search piece_long
-
-pub loop-k-preserved : goal.loop-k-preserved
-loop-k-preserved c = elim c.if-not-total_ok.branch [ then-not-total_ok w ↦ search (total_fails, not-true) | else-not-total_ok w ↦ search (total_holds, not-false) ]
+pub all-requires-clause-callable : goal.all-requires-clause-callable
+all-requires-clause-callable c =
+    let kinds = c.args.kinds.now in let totals = c.args.totals.now in
+    serves_from_places
+    (YieldsList-from_zip (YieldsList-at c.zip.ensures.first (YieldsList-from_slice kinds (cc))) (YieldsList-at c.zip.ensures.second (YieldsList-from_pieces 2 (length kinds) totals (cc) (cc) (omega arith) c.requires)))
+    (λ x q k. search (rules, tests))
+    (λ x k h e. let two = paired_wide 2 kinds (pieces 2 (length kinds) totals) k (x.0.now, x.1.now) (wide_pieces 2 (length kinds) totals c.requires) h e in search (rules, two))
 
 pub returns : goal.returns
-returns c = search pass_done
+returns c =
+    let kinds = c.args.kinds.now in let totals = c.args.totals.now in let bound = c.args.bound in
+    every_from_all c.all.new.self _ _ (λ p. total_kept bound p.0 (total_of_words p.1)) c.all.ensures.ran
+    (YieldsList-from_zip (YieldsList-at c.zip.ensures.first (YieldsList-from_slice kinds (cc))) (YieldsList-at c.zip.ensures.second (YieldsList-from_pieces 2 (length kinds) totals (cc) (cc) (omega arith) c.requires)))
+    (λ x b q k. search (rules, tests))
+    ∙ paired (λ kind words. total_kept bound kind (total_of_words words)) kinds (pieces 2 (length kinds) totals) (length_pieces 2 (length kinds) totals)

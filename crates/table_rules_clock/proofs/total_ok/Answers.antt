@@ -1,17 +1,27 @@
-use Rattle.table_rules_clock.proofs.Totals.{total_grown, total_up, total_none, total_negative, total_down}
+use Rattle.std.proofs.Common.{arith}
+use Rattle.std.proofs.lemmas.Bool.Decides.{nat_tests}
+use Rattle.meaning.specs.Operations.{is_counter}
+use Rattle.meaning.specs.Table.{is_negative}
+use Rattle.words_layout.specs.Words.{of_complement}
+use Rattle.table_rules_clock.specs.ClockTests.{total_kept}
 use Rattle.table_rules_clock.proofs.total_ok.Goals as goal
 
-pub returns-then-kind-eq-GROW_COUNTER : goal.returns-then-kind-eq-GROW_COUNTER
-returns-then-kind-eq-GROW_COUNTER c = search total_grown
+pub returns-then-not-negative : goal.returns-then-not-negative
+unfolding total_kept is_counter is_negative of_complement
+returns-then-not-negative c = grind (arith, nat_tests)
 
-pub returns-then-kind-eq-UP_DOWN_COUNTER : goal.returns-then-kind-eq-UP_DOWN_COUNTER
-returns-then-kind-eq-UP_DOWN_COUNTER c = search total_up
+pub returns-else-not-negative : goal.returns-else-not-negative
+unfolding total_kept is_counter is_negative of_complement
+returns-else-not-negative c = grind (arith, nat_tests)
 
-pub returns-then-code-lt-NEGATIVE_FROM : goal.returns-then-code-lt-NEGATIVE_FROM
-returns-then-code-lt-NEGATIVE_FROM c = search total_none
+pub returns-in-Ok-UpDownCounter : goal.returns-in-Ok-UpDownCounter
+unfolding total_kept is_counter is_negative of_complement
+returns-in-Ok-UpDownCounter c = grind (arith, nat_tests)
 
-pub returns-then-kind-ne-UP_DOWN_COUNTER : goal.returns-then-kind-ne-UP_DOWN_COUNTER
-returns-then-kind-ne-UP_DOWN_COUNTER c = search total_negative
+pub returns-in-Ok-UpDownCounter-2 : goal.returns-in-Ok-UpDownCounter-2
+unfolding total_kept is_counter is_negative of_complement
+returns-in-Ok-UpDownCounter-2 c = grind (arith, nat_tests)
 
-pub returns : goal.returns
-returns c = search total_down
+pub returns-in_default : goal.returns-in_default
+unfolding total_kept is_counter is_negative of_complement
+returns-in_default c = grind (arith, nat_tests)
