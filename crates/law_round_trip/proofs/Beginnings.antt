@@ -26,7 +26,7 @@ use Rattle.line_shape.specs.Shapes.{Fitting, length_of}
 use Rattle.line_shape.specs.Reading as shapes
 use Rattle.line_read.specs.Types.{last_vector, longest, longest_vector_line}
 use Rattle.line_read.proofs.Lengths.{line_length}
-use Rattle.line_read.specs.SavedNamed.{is_last, clock_read, last_read, total_read}
+use Rattle.line_read.specs.SavedNamed.{is_last, last_read}
 use Rattle.line_read.proofs.SavedNamed.{last_reads_back}
 use Rattle.line_decode.specs.Decoding.{bytes_of}
 use Rattle.line_decode.proofs.Decoding.{bytes_back}

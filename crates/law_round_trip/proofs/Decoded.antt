@@ -113,13 +113,13 @@ module _ (bytes : List ℕ) (h : AllBytes bytes) where
   word_at k l e = rw e (word_small k bytes h)
 
   pub high_small : (total_read bytes).high < word_limit
-  unfolding total_read line_read fields_read shapes.padded read length_of
+  unfolding total_read line_read fields_read is_shaped shapes.padded read length_of
   high_small = words_by (leb 0 greatest_size && has_shape 82 (10 + 4 * 0) bytes) _ _ 2 (word_at 2 _ (drop-drop 1 1 bytes))
 
   pub low_small : (total_read bytes).low < word_limit
-  unfolding total_read line_read fields_read shapes.padded read length_of
+  unfolding total_read line_read fields_read is_shaped shapes.padded read length_of
   low_small = words_by (leb 0 greatest_size && has_shape 82 (10 + 4 * 0) bytes) _ _ 3 (word_at 6 (drop 4 (drop 1 (drop 1 bytes))) (rw (drop-drop 1 1 bytes, drop-drop 4 2 bytes) refl))
 
   pub value_small : (size : ℕ) → (row_read size bytes).value < value_limit
-  unfolding row_read line_read fields_read shapes.padded read length_of
+  unfolding row_read line_read fields_read is_shaped shapes.padded read length_of
   value_small size = words_by (leb size greatest_size && has_shape 83 (9 + 4 * size) bytes) _ _ 5 (word_at 5 (drop 1 (drop 1 (drop 1 (drop 1 (drop 1 bytes))))) (rw (drop-drop 1 1 bytes, drop-drop 1 2 bytes, drop-drop 1 3 bytes, drop-drop 1 4 bytes) refl))

@@ -1,7 +1,7 @@
 -- 15 is for "a saved line that ... breaks a table rule": each rule is asked at the line that can break it, and when the closing line comes none is left.
 use Rattle.std.specs.Prelude.{Result, Ok}
-use mathlib.Core.Path.{◌≡◌, refl, sym, ap, ap₂, ◌∙◌, subst}
-use mathlib.Core.Bool.{Bool, true, false, false≢true}
+use mathlib.Core.Path.{◌≡◌, refl, sym, ap, ◌∙◌, subst}
+use mathlib.Core.Bool.{true, false, false≢true}
 use mathlib.Core.Logic.{◌⊎◌, inl, inr}
 use mathlib.Core.List.{List, [], ◌∷◌, ◌++◌}
 use Prim.Native.Nat.{ℕ, suc, ◌+◌, ◌<◌}
@@ -20,8 +20,8 @@ use Rattle.words_layout.specs.Layout.{count_in, holds_table, space_for, with_clo
 use Rattle.table_rules_clock.specs.ClockTests.{last_kept, total_kept}
 use Rattle.words_layout.proofs.Changing.{words_long}
 use Rattle.arrival.proofs.Kept.{laid_held}
-use Rattle.line_read.specs.Types.{is_line_of, head_of, line_read, row}
-use Rattle.line_read.specs.SavedNamed.{closing_read, is_closing, row_read, is_row}
+use Rattle.line_read.specs.Types.{is_line_of, head_of, row}
+use Rattle.line_read.specs.SavedNamed.{closing_read, is_closing, is_row}
 use Rattle.line_read.proofs.SavedNamed.{closing_only_spelling}
 use Rattle.line_decode.specs.Decoding.{bytes_of}
 use Rattle.form_lines.specs.FormLines.{clock_line, closing_line, last_line, row_line, total_line}

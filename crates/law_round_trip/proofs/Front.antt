@@ -1,6 +1,6 @@
 -- The lines of a form ahead of its rows, given to the space that its opening line left.
 use Rattle.std.specs.Prelude.{Ok}
-use mathlib.Core.Path.{◌≡◌, refl, sym, ap, ap₂, ◌∙◌, subst}
+use mathlib.Core.Path.{◌≡◌, refl, sym, ap₂, ◌∙◌, subst}
 use mathlib.Core.Bool.{Bool, true, false, not, ◌&&◌, cond}
 use mathlib.Core.List.{List, [], ◌∷◌, map}
 use Prim.Native.Nat.{ℕ, zero, suc, ◌+◌, ◌-◌, ◌≤◌, ◌<◌}
@@ -29,7 +29,6 @@ use Rattle.line_read.specs.Types.{clock, last_vector, total, longest}
 use Rattle.line_read.proofs.Spelling.{all_bytes_line_of}
 use Rattle.line_decode.specs.Decoding.{bytes_of}
 use Rattle.line_decode.proofs.Decoding.{bytes_back}
-use Rattle.line_read.specs.SavedNamed.{clock_read, last_read, total_read}
 use Rattle.form_lines.specs.FormLines.{clock_line, last_line, total_line}
 use Rattle.form_write.specs.Forms.{lines_of, last_lines, total_lines}
 use Rattle.form_write.specs.Seeking.{counter_at, other_at}

@@ -1,6 +1,6 @@
 -- What an opening line said that begins a load.
 use Rattle.std.specs.Prelude.{Result}
-use mathlib.Core.Path.{◌≡◌, refl, ap, ◌∙◌}
+use mathlib.Core.Path.{◌≡◌, refl, sym, ap, ◌∙◌}
 use mathlib.Core.Bool.{true, false}
 use mathlib.Core.Logic.{◌⊎◌, inl, inr}
 use mathlib.Core.List.{List, [], ◌∷◌}
@@ -74,8 +74,8 @@ module _ (line words : List ℕ) (idle : under_load words ≡ false) where
       (λ none. inr (record {
         what = header;
         line_is = line_is ok;
-        fresh = fresh_of header (open_ranges words (space_for header.size header.capacity) header refusal refl (eqb-true refusal 0 none));
-        kept = (open_ranges words (space_for header.size header.capacity) header refusal refl (eqb-true refusal 0 none), refl, open_room words (space_for header.size header.capacity) header refusal refl (eqb-true refusal 0 none));
+        fresh = fresh_of header (open_ranges words (space_for header.size header.capacity) header (sym (eqb-true refusal 0 none)));
+        kept = (open_ranges words (space_for header.size header.capacity) header (sym (eqb-true refusal 0 none)), refl, open_room words (space_for header.size header.capacity) header (sym (eqb-true refusal 0 none)));
         next_is = is ∙ rw (ok, none) refl;
       }))
       (λ some. inl (ap (λ (o : Result Loaded ℕ × List ℕ). refused o.0) is ∙ rw (ok, some) refl)))

@@ -26,19 +26,17 @@ use Rattle.table_rules_rows.proofs.RowMeaning.{rule_kept}
 use Rattle.table_rules_rows.proofs.Ordering.{Readable, sorted_chain}
 use Rattle.line_hex.specs.Hex.{digit_of, digits_of, hex_line, is_digit, value_of}
 use Rattle.line_hex.specs.Decoding.{pair_of}
-use Rattle.line_hex.specs.Choice.{pick}
 use Rattle.line_hex.specs.Numbers.{AllBytes, big_endian}
-use Rattle.line_shape.specs.declared.Fields.{Fields}
-use Rattle.line_shape.specs.Reading.{is_shaped, entries, fields_read, has_shape, padded, size_of, starts_with, unread}
-use Rattle.line_shape.specs.Shapes.{length_of, read, written}
+use Rattle.line_shape.specs.Reading.{is_shaped, has_shape, size_of, starts_with}
+use Rattle.line_shape.specs.Shapes.{written}
 use Rattle.line_put.specs.Writing.{line_bytes}
-use Rattle.line_read.specs.Types.{is_line_of, opening, row, closing, head_of, line_read, longest}
+use Rattle.line_read.specs.Types.{is_line_of, opening, row, closing, head_of, longest}
 use Rattle.line_read.proofs.Spelling.{all_bytes_line_of}
 use Rattle.line_decode.specs.Decoding.{bytes_of, type_of}
 use Rattle.line_decode.specs.LineKinds.{kind_of}
 use Rattle.line_decode.specs.declared.LineKind.TheVariants as kind
 use Rattle.line_decode.proofs.Decoding.{bytes_back}
-use Rattle.line_read.specs.SavedNamed.{closing_read, row_read, is_row}
+use Rattle.line_read.specs.SavedNamed.{is_row}
 use Rattle.form_lines.specs.FormLines.{opening_line, clock_line, row_line, closing_line}
 use Rattle.meaning.proofs.TableFacts.{row_small}
 use Rattle.form_write.specs.Forms.{last_lines, row_lines, saved_form, total_lines}
@@ -203,7 +201,7 @@ module _ (t : Table) (is : is_table t ≡ true) (space : List ℕ) (no_load : un
 
   header_back : header_read (opening_line t.header) ≡ t.header
   unfolding header_read
-  header_back = rw (opening_back t is, kinds_back t is) refl
+  header_back = rw ((opening_back t is).1, kinds_back t is) refl
 
   opens : open_table (length space) (space_for t.header.size t.header.capacity) t.header ≡ fresh (opened t.header)
   unfolding open_table opening_refusals
@@ -211,7 +209,7 @@ module _ (t : Table) (is : is_table t ≡ true) (space : List ℕ) (no_load : un
 
   opened_space : opened_by line space ≡ (Ok tt, words_of (opened t.header) ++ beyond)
   unfolding opened_by opened_as opened
-  opened_space = rw (opening_heard, header_back, opening_back t is, opens) refl
+  opened_space = rw (opening_heard, header_back, (opening_back t is).0, opens) refl
 
   pub opening_taken : loaded_by line space ≡ (Ok loaded.Taken, under 1 (opened t.header) beyond)
   unfolding loaded_by first_taken first_as begun

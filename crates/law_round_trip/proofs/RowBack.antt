@@ -170,7 +170,7 @@ module _ (t : Table) (F : Fresh t) (rest : List ℕ) (p : ℕ) (line : List ℕ)
       )
 
   row_taken_lem : is_row size bytes ≡ true → length (take size (row_read size bytes).vector) ≡ size → (row_read size bytes).settled ≤ 1 → joins space (row_said size (row_read size bytes)) ≡ true → Took line space (row_line size) (λ (r : Row). with_rows t (t.rows ++ (r ∷ []))) (RowRules t) p rest
-  unfolding row_line row_read
+  unfolding row_line is_row row_read
   row_taken_lem ok long flag join =
       let f = row_read size bytes in
       let J = joined (row_said size f) join in

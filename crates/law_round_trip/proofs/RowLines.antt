@@ -1,7 +1,7 @@
 -- What a row's line, and the closing line, make of a space under load.
 use Rattle.std.specs.Prelude.{Ok}
 use mathlib.Core.Path.{◌≡◌, refl, sym, ap, ◌∙◌}
-use mathlib.Core.Bool.{Bool, true, false, ◌&&◌, cond}
+use mathlib.Core.Bool.{Bool, true, false, cond}
 use mathlib.Core.List.{List, [], ◌∷◌, ◌++◌, map, append_assoc}
 use Prim.Native.Nat.{ℕ, zero, suc, ◌+◌, ◌-◌, ◌*◌, ◌/◌, ◌%◌, ◌≤◌, ◌<◌}
 use native.Mathlib.Nat.{mul-le-mul_right}
@@ -90,8 +90,8 @@ module _ (t : Table) (F : Fresh t) (rest : List ℕ) (p : ℕ) (line : List ℕ)
   unfolding taken_as row_or_closing closed finished words_of
   close_step n e is =
       let whole : set space 6 0 ≡ plain = set_set plain 6 p 0 in
-      by_rows_lem ∙ rw (n, whole, count_is t F rest p)
-      (rw e.0 (ap (λ (f : Closing). pick (eqb f.rows (length t.rows)) (pick (holds_table plain) (Ok loaded.Table, plain) (spoilt space)) (spoilt space)) e.1)
+      by_rows_lem ∙ rw (n, whole, count_is t F rest p, e.0)
+      (ap (λ (f : Closing). pick (eqb f.rows (length t.rows)) (pick (holds_table plain) (Ok loaded.Table, plain) (spoilt space)) (spoilt space)) e.1
       ∙ rw (eq-eqb (length t.rows) (length t.rows) refl, laid_held t is rest) refl)
 
   -- the rows that stand there

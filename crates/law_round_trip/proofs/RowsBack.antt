@@ -13,7 +13,7 @@ use Rattle.meaning.proofs.Tests.{cases}
 use Rattle.words_layout.specs.Layout.{holds_table, table_of, words_of}
 use Rattle.words_layout.proofs.Reading.{table_read}
 use Rattle.line_hex.specs.Hex.{hex_line}
-use Rattle.line_read.specs.SavedNamed.{row_read, is_row}
+use Rattle.line_read.specs.SavedNamed.{is_row}
 use Rattle.line_decode.specs.Decoding.{bytes_of}
 use Rattle.form_lines.specs.FormLines.{closing_line, row_line}
 use Rattle.form_take.specs.declared.Loaded.{Loaded}

@@ -77,8 +77,8 @@ module _ (t : Table) (F : Fresh t) (rest : List ℕ) (p : ℕ) (line : List ℕ)
       let put : paste plain at v (length v) ≡ rewritten plain (with_last t (set t.last k v)) = rw (sym size_plain) (pasted plain v (clock_at + size_in plain + k * size_in plain) (size_in plain) (long ∙ sym size_plain) ∙ put_last plain L k v (rw size_plain b) ∙ ap (λ (u : Table). rewritten plain (with_last u (set u.last k v))) back) in
       let within : at ≤ length plain = omega (arith, room t F rest p, mul-le-mul_right size b) in
       taken_by_lem t F rest p line (next.Last (record { 0 = k })) c no_rows
-      ∙ rw (size_is t F rest p, own_is t F rest p, clock_is t F rest p)
-      (rw e.0 (ap (λ (f : LastVector). pick (eqb f.station k && last_kept t.header.own t.clock k (take size f.vector)) (took words at (take size f.vector)) (spoilt words)) e.1)
+      ∙ rw (size_is t F rest p, own_is t F rest p, clock_is t F rest p, e.0)
+      (ap (λ (f : LastVector). pick (eqb f.station k && last_kept t.header.own t.clock k (take size f.vector)) (took words at (take size f.vector)) (spoilt words)) e.1
       ∙ rw (eq-eqb k k refl, front_of v size long, kept) (took_as t F rest p at v (with_last t (set t.last k v)) (omega arith) within put))
 
   -- `52`
@@ -91,6 +91,6 @@ module _ (t : Table) (F : Fresh t) (rest : List ℕ) (p : ℕ) (line : List ℕ)
       let put : paste plain at (total_words z) 2 ≡ rewritten plain (with_totals t (set t.totals o z)) = pasted plain (total_words z) at 2 refl ∙ put_total plain L o z b ∙ ap (λ (u : Table). rewritten plain (with_totals u (set u.totals o z))) back in
       let same : total_of_words (total_words z) ≡ z = two_read z range in
       taken_by_lem t F rest p line (next.Total o) c no_rows
-      ∙ rw (kinds_are t F rest p, clock_is t F rest p)
-      (rw e.0 (ap (λ (f : Total). pick (eqb f.object o && total_kept (total_bound t.clock) (get_or t.header.kinds o 0) (total_of_words (f.high ∷ f.low ∷ []))) (took words at (f.high ∷ f.low ∷ [])) (spoilt words)) e.1)
+      ∙ rw (kinds_are t F rest p, clock_is t F rest p, e.0)
+      (ap (λ (f : Total). pick (eqb f.object o && total_kept (total_bound t.clock) (get_or t.header.kinds o 0) (total_of_words (f.high ∷ f.low ∷ []))) (took words at (f.high ∷ f.low ∷ [])) (spoilt words)) e.1
       ∙ rw (eq-eqb o o refl, same, kept) (took_as t F rest p at (total_words z) (with_totals t (set t.totals o z)) (omega arith) (omega (arith, room t F rest p)) put))

@@ -165,7 +165,7 @@ module _ (t : Table) (F : Fresh t) (rest : List ℕ) (p : ℕ) (line : List ℕ)
 
   -- `50`
   pub clock_back : next_after size t.header.own t.header.kinds p ≡ next.Clock → (refused (loaded_by line words).0 ≡ true) ⊎ Took line words clock_line (with_clock t) (λ (v : Vector). every (λ (entry : ℕ). ltb entry entry_limit) v ≡ true) (suc p) rest
-  unfolding taken_as clock_taken waits clock_line clock_read spoilt
+  unfolding taken_as clock_taken waits clock_line is_clock clock_read spoilt
   clock_back c =
       let f = clock_read size bytes in
       let v : Vector = take size f.vector in
@@ -182,7 +182,7 @@ module _ (t : Table) (F : Fresh t) (rest : List ℕ) (p : ℕ) (line : List ℕ)
 
   -- `51`
   pub last_back : (k : ℕ) → k < size → next_after size t.header.own t.header.kinds p ≡ next.Last (record { 0 = k }) → (refused (loaded_by line words).0 ≡ true) ⊎ Took line words (last_line k) (λ (v : Vector). with_last t (set t.last k v)) (λ (v : Vector). last_kept t.header.own t.clock k v ≡ true) (suc p) rest
-  unfolding taken_as last_taken waits last_line last_read spoilt words_of
+  unfolding taken_as last_taken waits last_line is_last last_read spoilt words_of
   last_back k b c =
       let f = last_read size bytes in
       let v : Vector = take size f.vector in
@@ -203,7 +203,7 @@ module _ (t : Table) (F : Fresh t) (rest : List ℕ) (p : ℕ) (line : List ℕ)
 
   -- `52`
   pub total_back : (o : ℕ) → o < length t.header.kinds → next_after size t.header.own t.header.kinds p ≡ next.Total o → (refused (loaded_by line words).0 ≡ true) ⊎ Took line words (total_line o) (λ (z : ℤ). with_totals t (set t.totals o z)) (λ (z : ℤ). total_kept (total_bound t.clock) (get_or t.header.kinds o 0) z ≡ true) (suc p) rest
-  unfolding taken_as total_taken waits total_line total_read spoilt
+  unfolding taken_as total_taken waits total_line is_total total_read spoilt
   total_back o b c =
       let f = total_read bytes in
       let z = total_of_words (f.high ∷ f.low ∷ []) in
