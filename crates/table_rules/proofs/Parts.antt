@@ -14,7 +14,7 @@ use Rattle.words_layout.specs.Layout.{rows_in, space_for, size_in, capacity_in, 
 use Rattle.table_rules_rows.specs.RowTests.{rows_kept}
 use Rattle.table_rules_rows.proofs.Tagging.{rest_is}
 use Rattle.table_rules_clock.specs.ClockTests.{total_kept_at, last_kept}
-use Rattle.table_rules.specs.TableTests.{Headed, kinds_in, clock_in, kinds_kept, totals_kept, lasts_kept, unused_kept, parts_kept}
+use Rattle.table_rules.specs.TableTests.{Headed, kinds_in, clock_in, kinds_kept, totals_kept, lasts_kept, unused_kept}
 
 -- the kinds
 module _ (s : List ℕ) (o : ℕ) (eo : o ≡ get_or s 4 0) (r : Bool) (er : r ≡ every (between 1 9) (take (7 + o - 7) (drop 7 s))) where

@@ -1,27 +1,17 @@
 -- Totals and vectors, each by itself.
-use Prim.Native.Nat.{ℕ, zero, suc, ◌+◌, ◌-◌, ◌*◌, ◌≤◌, ◌<◌}
-use mathlib.Core.Path.{◌≡◌, refl, sym, ap, ◌∙◌}
-use mathlib.Core.Bool.{Bool, true, false, not, ◌&&◌, ◌||◌, cond, and-true}
+use Prim.Native.Nat.{ℕ, zero, suc, ◌+◌, ◌*◌, ◌≤◌, ◌<◌}
+use mathlib.Core.Path.{◌≡◌, refl, ap, ◌∙◌}
+use mathlib.Core.Bool.{Bool, true, ◌&&◌}
 use mathlib.Core.List.{List, [], ◌∷◌}
 use Rattle.std.specs.List.{zip}
 use Rattle.meaning.specs.Tests.{every, every_at}
 use Rattle.words_layout.proofs.Pieces.{Wide}
-use native.Mathlib.Nat.{mul-le-mul}
-use native.Mathlib.Numerals.{add-one}
 use native.Mathlib.Omega.{arith}
-use borrow.Author.Tests.{eq-eqb, ne_eqb, lt-ltb, le-ltb, le-leb, leb-true, ltb-true, ltb-false}
-use mir.Val.{Fits}
-use mir.Syntax.{w32, w64}
-use lib.Dec.{leb, ltb, eqb}
-use lib.IntN.{pos, negsuc}
-use lib.ListN.{length, get_or, take, drop, drop_of_length-le, length-drop}
+use lib.ListN.{length, get_or, drop, length-drop}
 use lib.Seq.{drop-cons}
-use Rattle.meaning.specs.Order.{Vector, at_most, entry_limit}
-use Rattle.meaning.specs.Operations.{is_counter, greatest_amount}
-use Rattle.meaning.specs.Table.{sum_of_entries, total_bound, is_negative, greatest_size}
-use Rattle.meaning.proofs.Tests.{iff, cases}
-use Rattle.words_layout.specs.Words.{all_zero, of_complement, of_two_words, word_limit}
-use Rattle.table_rules_clock.specs.ClockTests.{total_kept, total_kept_at, last_kept}
+use Rattle.meaning.specs.Order.{Vector, entry_limit}
+use Rattle.meaning.specs.Operations.{greatest_amount}
+use Rattle.meaning.specs.Table.{sum_of_entries, total_bound, greatest_size}
 
 -- the sum: what is added and the sum of the rest make the sum of all
 pub record Summed (clock : Vector) (sum i : ℕ) : Type 0 where

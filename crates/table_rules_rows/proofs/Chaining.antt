@@ -1,5 +1,5 @@
 -- Each row and the next.
-use Prim.Native.Nat.{ℕ, zero, suc, ◌+◌, ◌-◌, ◌*◌, ◌≤◌, ◌<◌}
+use Prim.Native.Nat.{ℕ, zero, suc, ◌≤◌, ◌<◌}
 use mathlib.Core.Path.{ap₂, ◌≡◌, refl, sym, ap, ◌∙◌}
 use mathlib.Core.Bool.{Bool, true, false, not, ◌&&◌}
 use mathlib.Core.List.{List, [], ◌∷◌}
@@ -14,18 +14,14 @@ use Rattle.std.proofs.lemmas.Iterator.{YieldsList, YieldsList-from_zip, zips}
 use Rattle.std.proofs.lemmas.Iterator.Adapters.{YieldsList-from_skip}
 use Rattle.std.proofs.lemmas.Iterator.Consumers.{YieldsList-at}
 use Rattle.words_layout.proofs.Pieces.{Wide}
-use native.Mathlib.Nat.{suc-mul}
 use native.Mathlib.Omega.{arith}
-use borrow.Author.Tests.{ne_eqb}
-use mir.Val.{Fits}
-use mir.Syntax.{w64}
-use lib.ListN.{length, get_or, take, drop, length-drop}
-use lib.Seq.{drop-drop, take-take, take_all, get_or-take, length-take-le}
+use lib.ListN.{length, get_or, take, drop}
+use lib.Seq.{take-take, take_all, get_or-take}
 use Rattle.meaning.specs.Tests.{every}
 use Rattle.meaning.specs.Order.{same}
 use Rattle.meaning.specs.Rows.{lower_key}
 use Rattle.words_layout.specs.Words.{pieces}
-use Rattle.table_rules_rows.specs.RowTests.{follows, chained, row_kept, rows_kept}
+use Rattle.table_rules_rows.specs.RowTests.{follows, chained}
 
 -- one row and the next, by their keys: two tests of which the second is made where the first holds
 pub both_tests : (one first second r both : Bool) → one ≡ first → one ≡ true → r ≡ second → both ≡ r → both ≡ (first && second)

@@ -1,19 +1,17 @@
 -- A test of every piece of one width, each at its place.
 use Prim.Native.Nat.{ℕ, suc, ◌+◌, ◌-◌, ◌*◌, ◌≤◌, ◌<◌}
-use mathlib.Core.Path.{◌≡◌, refl, sym, ap, ◌∙◌}
+use mathlib.Core.Path.{◌≡◌, refl, sym, ◌∙◌}
 use mathlib.Core.Bool.{Bool, true, false, ◌&&◌, and-true, and-false}
-use mathlib.Core.List.{List, [], ◌∷◌}
+use mathlib.Core.List.{List}
 use native.Mathlib.Nat.{suc-mul, mul-le-mul_right}
 use native.Mathlib.Numerals.{add-one}
 use native.Mathlib.Omega.{arith}
-use borrow.Author.Tests.{eq-eqb, ne_eqb}
 use mir.Val.{Fits}
 use mir.Syntax.{w64}
-use lib.Dec.{eqb}
-use lib.ListN.{length, get_or, take, drop, drop_of_length-le, length-drop}
-use lib.Seq.{drop-cons, drop-drop, length-take-le}
-use Rattle.meaning.specs.Tests.{every, every_at}
-use Rattle.words_layout.specs.Words.{all_zero, pieces}
+use lib.ListN.{length, take, drop, length-drop}
+use lib.Seq.{drop-drop, length-take-le}
+use Rattle.meaning.specs.Tests.{every_at}
+use Rattle.words_layout.specs.Words.{pieces}
 
 -- k pieces of `count` are passed, up to place `at`: what was noted and the test of the rest make the test of all, each at its place
 pub record Passed (one : ℕ → List ℕ → Bool) (w count : ℕ) (s : List ℕ) (good : Bool) (k at : ℕ) : Type 0 where

@@ -16,6 +16,6 @@ returns-else-sizes_ok c = grind (arith, nat_tests)
 pub has_room-requires : goal.has_room-requires
 has_room-requires c =
     elim c.if-s-eq-IDLE.branch [
-      then-s-eq-IDLE w ↦ let true_there = sym w.value-is ∙ c.if-sizes_ok.true in (search rules, head_few c.args.s.now _ w.sizes_ok.ensures true_there, head_small c.args.s.now _ w.sizes_ok.ensures true_there)
-    | else-s-eq-IDLE w ↦ grind (arith, nat_tests)
+      | then-s-eq-IDLE w ↦ let true_there = sym w.value-is ∙ c.if-sizes_ok.true in (search rules, head_few c.args.s.now _ w.sizes_ok.ensures true_there, head_small c.args.s.now _ w.sizes_ok.ensures true_there)
+      | else-s-eq-IDLE w ↦ grind (arith, nat_tests)
     ]
