@@ -33,7 +33,7 @@ use Rattle.call_checked.specs.declared.Opened.TheVariants as opened
 use Rattle.call_checked.specs.declared.Received.TheVariants as received
 use Rattle.call_checked.specs.declared.Settled.TheVariants as settled
 use Rattle.call_checked.specs.Called.{frame_bytes, frame_of, framed_as, header_read, issued_as, issued_on, local_of, opened_as, opened_by, received_as, received_on, replied_on, settled_as, settled_on}
-use Rattle.call_answer.specs.Answering.{answer_on, changing, issue_answer, issued_bytes, opened_bytes, question_answer, received_bytes, second_opening, settled_bytes, frame_room}
+use Rattle.call_answer.specs.Answering.{answer_on, changing, issue_answer, issued_bytes, outcome_bytes, question_answer, second_opening, settled_bytes, frame_room}
 use Rattle.line_decode.specs.Decoding.{bytes_of, type_of}
 use Rattle.line_decode.specs.LineKinds.{kind_of}
 use Rattle.line_decode.specs.declared.LineKind.{LineKind}
@@ -62,11 +62,11 @@ module _ (line words : List ℕ) where
   unfolding answer_of
   by_table k z = rw z refl
 
-  told_frame : type_of line ≡ operation.type_byte → answer_of line words ≡ changing received_bytes (received_by line words)
-  unfolding answer_on first_answer kind_of received_by received_bytes
+  told_frame : type_of line ≡ operation.type_byte → answer_of line words ≡ changing outcome_bytes (received_by line words)
+  unfolding answer_on first_answer kind_of received_by outcome_bytes
   told_frame z = by_table kind.Operation (rw z refl) ∙ by (holds_table words)
     where
-      by : (b : Bool) → pick {A = List ℕ × List ℕ} b (received_bytes (received_on line words).0, (received_on line words).1) (refusal_bytes 14, words) ≡ changing received_bytes (pick b (received_on line words) (received.Refused 14, words))
+      by : (b : Bool) → pick {A = List ℕ × List ℕ} b (outcome_bytes (received_on line words).0, (received_on line words).1) (refusal_bytes 14, words) ≡ changing outcome_bytes (pick b (received_on line words) (received.Refused 14, words))
       by true = refl
       by false = refl
 
@@ -78,7 +78,7 @@ module _ (line words : List ℕ) where
       by true = refl
       by false = refl
 
-  told_opening : type_of line ≡ opening.type_byte → holds_table words ≡ false → answer_of line words ≡ changing opened_bytes (opened_by line words)
+  told_opening : type_of line ≡ opening.type_byte → holds_table words ≡ false → answer_of line words ≡ changing outcome_bytes (opened_by line words)
   unfolding first_answer kind_of
   told_opening z f = by_table kind.Opening (rw z refl) ∙ rw f refl
 
@@ -236,8 +236,8 @@ module _ (line words : List ℕ) where
   abbrev Quiet : List ℕ × List ℕ → Type 0
   Quiet (bytes, after) = is_done bytes ≡ false → after ≡ words
 
-  quiet_frame : (x : meaning.Outcome) → Quiet (changing received_bytes (received_as words x))
-  unfolding received_as received_bytes
+  quiet_frame : (x : meaning.Outcome) → Quiet (changing outcome_bytes (received_as words x))
+  unfolding received_as outcome_bytes
   quiet_frame (meaning.Outcome.refused number) f = refl
   quiet_frame (meaning.Outcome.accepted u table) f = absurd (false≢true (sym f ∙ done_is_done))
 
@@ -251,8 +251,8 @@ module _ (line words : List ℕ) where
   quiet_settling (meaning.Settled.refused number) f = refl
   quiet_settling (meaning.Settled.settled steps table) f = absurd (false≢true (sym f))
 
-  quiet_opening : (x : meaning.Opening) → Quiet (changing opened_bytes (opened_as words x))
-  unfolding opened_as opened_bytes
+  quiet_opening : (x : meaning.Opening) → Quiet (changing outcome_bytes (opened_as words x))
+  unfolding opened_as outcome_bytes
   quiet_opening (meaning.Opening.refused number) f = refl
   quiet_opening (meaning.Opening.fresh table) f = absurd (false≢true (sym f ∙ done_is_done))
 
@@ -261,7 +261,7 @@ module _ (line words : List ℕ) where
   quiet_table kind.Opening = λ _. refl
   quiet_table kind.Operation = by (operation_read (bytes_of line)).ok
     where
-      by : (b : Bool) → Quiet (changing received_bytes (pick b (received_as words (meaning.receive (table_of words) (frame_of (operation_read (bytes_of line))))) (received.Refused 1, words)))
+      by : (b : Bool) → Quiet (changing outcome_bytes (pick b (received_as words (meaning.receive (table_of words) (frame_of (operation_read (bytes_of line))))) (received.Refused 1, words)))
       by true = quiet_frame (meaning.receive (table_of words) (frame_of (operation_read (bytes_of line))))
       by false = λ _. refl
   quiet_table kind.Issue = by (issue_read (bytes_of line)).ok
@@ -279,14 +279,14 @@ module _ (line words : List ℕ) where
   quiet_table kind.Saved = λ _. refl
   quiet_table kind.Unknown = λ _. refl
 
-  quiet_opened : Quiet (changing opened_bytes (opened_by line words))
+  quiet_opened : Quiet (changing outcome_bytes (opened_by line words))
   unfolding opened_by
   quiet_opened = by (opening_read (bytes_of line)).ok
     where
       opens : meaning.Opening
       opens = meaning.open_table (length words) (space_for (header_read (bytes_of line)).size (header_read (bytes_of line)).capacity) (header_read (bytes_of line))
 
-      by : (b : Bool) → Quiet (changing opened_bytes (pick b (opened_as words opens) (opened.Refused 1, words)))
+      by : (b : Bool) → Quiet (changing outcome_bytes (pick b (opened_as words opens) (opened.Refused 1, words)))
       by true = quiet_opening opens
       by false = λ _. refl
 

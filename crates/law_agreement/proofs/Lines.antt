@@ -42,7 +42,7 @@ use Rattle.call_checked.specs.declared.Settled.TheVariants as settled
 use Rattle.call_checked.specs.declared.Opened.{Opened}
 use Rattle.call_checked.specs.declared.Opened.TheVariants as opened
 use Rattle.call_checked.specs.Called.{frame_bytes, frame_of, header_read, issued_on, local_of, opened_by, received_as, received_on, settled_on}
-use Rattle.call_answer.specs.Answering.{answer_on, done_bytes, issue_answer, issued_bytes, opened_bytes, question_answer, received_bytes, second_opening, settled_bytes, answered_after, frame_room}
+use Rattle.call_answer.specs.Answering.{answer_on, done_bytes, issue_answer, issued_bytes, outcome_bytes, question_answer, second_opening, settled_bytes, answered_after, frame_room}
 use Rattle.call_answer.proofs.Framing.{frame_room_lem, issue_framed, issue_refused}
 use Rattle.line_decode.specs.Decoding.{bytes_of, type_of}
 use Rattle.line_decode.specs.LineKinds.{kind_of}
@@ -138,8 +138,8 @@ module _ (line words : List ℕ) (s : Station) (H : Holds words s) where
   local = local_of (issue_read (bytes_of line))
 
   -- an outcome, as it is told
-  frame_outcome : (number : ℕ) (u : Operation) (t : Table) → (after_outcome s (outcome number u t)).accepted ≡ pick (is_done (received_bytes (received_as words (outcome number u t)).0)) (u ∷ []) [] ++ s.accepted
-  unfolding outcome received_as after_outcome received_bytes
+  frame_outcome : (number : ℕ) (u : Operation) (t : Table) → (after_outcome s (outcome number u t)).accepted ≡ pick (is_done (outcome_bytes (received_as words (outcome number u t)).0)) (u ∷ []) [] ++ s.accepted
+  unfolding outcome received_as after_outcome outcome_bytes
   frame_outcome number u t = cases (eqb number 0)
       (λ q. rw (q, done_is_done) refl)
       (λ q. rw (q, refusal_not_done number) refl)
@@ -150,16 +150,16 @@ module _ (line words : List ℕ) (s : Station) (H : Holds words s) where
       (λ q. rw q refl)
       (λ q. rw (q, refusal_not_done number) refl)
 
-  frame_taken : (after_outcome s (meaning.receive s.table frame)).accepted ≡ pick (is_done (received_bytes (received_as words (meaning.receive (table_of words) frame)).0)) (frame.operation ∷ []) [] ++ s.accepted
+  frame_taken : (after_outcome s (meaning.receive s.table frame)).accepted ≡ pick (is_done (outcome_bytes (received_as words (meaning.receive (table_of words) frame)).0)) (frame.operation ∷ []) [] ++ s.accepted
   unfolding meaning.receive
   frame_taken = ap (λ (t : Table). (after_outcome s (meaning.receive t frame)).accepted) (sym H.table_is)
       ∙ frame_outcome (refusal_of_frame (table_of words) frame) frame.operation (after_arrival (table_of words) frame.operation (set (table_of words).last frame.operation.sender frame.operation.vector))
 
-  frame_accepted : (after_all (events_of (receives line) words) s).accepted ≡ pick (is_done (received_bytes (received_on line words).0)) (frame.operation ∷ []) [] ++ s.accepted
-  unfolding events_of after_all after received_on received_bytes
+  frame_accepted : (after_all (events_of (receives line) words) s).accepted ≡ pick (is_done (outcome_bytes (received_on line words).0)) (frame.operation ∷ []) [] ++ s.accepted
+  unfolding events_of after_all after received_on outcome_bytes
   frame_accepted = by (operation_read (bytes_of line)).ok
     where
-      by : (b : Bool) → (after_all (pick b (history.receives frame ∷ []) []) s).accepted ≡ pick (is_done (received_bytes (pick b (received_as words (meaning.receive (table_of words) frame)) (received.Refused 1, words)).0)) (frame.operation ∷ []) [] ++ s.accepted
+      by : (b : Bool) → (after_all (pick b (history.receives frame ∷ []) []) s).accepted ≡ pick (is_done (outcome_bytes (pick b (received_as words (meaning.receive (table_of words) frame)) (received.Refused 1, words)).0)) (frame.operation ∷ []) [] ++ s.accepted
       by true = frame_taken
       by false = rw (refusal_not_done 1) refl
 
@@ -271,8 +271,8 @@ module _ (line before words : List ℕ) (O : OpenedBy line before words) where
   not_done : (bytes after : List ℕ) → is_done bytes ≡ false → ◌≡◌ {A = List ℕ × List ℕ} (bytes, after) (done_bytes, words) → ⊥
   not_done bytes after f e = false≢true (sym f ∙ ap (λ (q : List ℕ × List ℕ). is_done q.0) e ∙ done_is_done)
 
-  by_opened : (r : Opened) (x : List ℕ) → ◌≡◌ {A = List ℕ × List ℕ} (opened_bytes r, x) (done_bytes, words) → ◌≡◌ {A = Opened × List ℕ} (r, x) (opened.Fresh, words)
-  unfolding opened_bytes
+  by_opened : (r : Opened) (x : List ℕ) → ◌≡◌ {A = List ℕ × List ℕ} (outcome_bytes r, x) (done_bytes, words) → ◌≡◌ {A = Opened × List ℕ} (r, x) (opened.Fresh, words)
+  unfolding outcome_bytes
   by_opened (opened.Refused number) x e = absurd (not_done (refusal_bytes number) x (refusal_not_done number) e)
   by_opened opened.Fresh x e = ap (λ (q : List ℕ × List ℕ). (opened.Fresh, q.1)) e
 
@@ -280,7 +280,7 @@ module _ (line before words : List ℕ) (O : OpenedBy line before words) where
   unfolding answer_of answer_on first_answer kind_of second_opening
   opened_fresh = by (holds_table before) (subst (λ (type : ℕ). pick (holds_table before) (answer_on (kind_of type) line before) (first_answer (kind_of type) line before) ≡ (done_bytes, words)) O.is_opening O.answered)
     where
-      by : (b : Bool) → pick {A = List ℕ × List ℕ} b (second_opening line, before) (opened_bytes (opened_by line before).0, (opened_by line before).1) ≡ (done_bytes, words) → opened_by line before ≡ (opened.Fresh, words)
+      by : (b : Bool) → pick {A = List ℕ × List ℕ} b (second_opening line, before) (outcome_bytes (opened_by line before).0, (opened_by line before).1) ≡ (done_bytes, words) → opened_by line before ≡ (opened.Fresh, words)
       by true e = absurd (not_done (second_opening line) before (refusal_not_done (pick (opening_read (bytes_of line)).ok 13 1)) e)
       by false e = by_opened (opened_by line before).0 (opened_by line before).1 e
 

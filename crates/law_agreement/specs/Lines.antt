@@ -20,7 +20,7 @@ use Rattle.call_question.specs.AnswerBytes.{list_bytes, refusal_bytes, reply_byt
 use Rattle.call_checked.specs.declared.Issued.{Issued}
 use Rattle.call_checked.specs.declared.Issued.TheVariants as issued
 use Rattle.call_checked.specs.Called.{frame_of, local_of, opened_by}
-use Rattle.call_answer.specs.Answering.{changing, done_bytes, opened_bytes, received_bytes, second_opening, settled_bytes}
+use Rattle.call_answer.specs.Answering.{changing, done_bytes, outcome_bytes, second_opening, settled_bytes}
 use Rattle.form_write.specs.Forms.{saved_form}
 use Rattle.form_save.specs.declared.Saved.{Saved}
 use Rattle.form_save.specs.declared.Saved.TheVariants as saved
@@ -121,11 +121,11 @@ saved_answer words place (saved.End, out) = (answered.End, (words, out))
 
 -- The answer to a line of each type is what the call of that type answers: on any space, with room for every frame, every list and every line of a form.
 pub record ByType (line words : List ℕ) : Type 0 where
-  pub frame : type_of line ≡ operation.type_byte → answer_of line words ≡ changing received_bytes (received_by line words)
+  pub frame : type_of line ≡ operation.type_byte → answer_of line words ≡ changing outcome_bytes (received_by line words)
   pub local : type_of line ≡ issue.type_byte → (hex_line (answer_of line words).0, (answer_of line words).1) ≡ issued_answer (calls.issued_by line words (zeros longest_frame))
   pub settled : type_of line ≡ settling.type_byte → answer_of line words ≡ changing settled_bytes (settled_by line words)
   pub asked : type_of line ≡ question.type_byte → answer_of line words ≡ (replied_answer (replied_by line words (zeros most_rows)), words)
-  pub opened : type_of line ≡ opening.type_byte → holds_table words ≡ false → answer_of line words ≡ changing opened_bytes (opened_by line words)
+  pub opened : type_of line ≡ opening.type_byte → holds_table words ≡ false → answer_of line words ≡ changing outcome_bytes (opened_by line words)
   pub second : type_of line ≡ opening.type_byte → holds_table words ≡ true → answer_of line words ≡ (second_opening line, words)
   -- that answer is the one output line
   pub one_line : type_of line ≢ printing.type_byte → lines_for line words ≡ (answer_of line words).0 ∷ []

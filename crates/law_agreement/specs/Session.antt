@@ -23,7 +23,7 @@ use Rattle.form_write.specs.Forms.{last_lines, row_lines, saved_form, total_line
 use Rattle.form_write.specs.Session.{session_form}
 use Rattle.call_question.specs.AnswerBytes.{list_bytes, refusal_bytes, reply_bytes}
 use Rattle.call_checked.specs.Called.{frame_bytes, frame_of, header_read, local_of, opened_as, opened_by, received_as, received_on, settled_as, settled_on}
-use Rattle.call_answer.specs.Answering.{answer_on, done_bytes, issue_answer, issued_bytes, opened_bytes, question_answer, received_bytes, second_opening, settled_bytes}
+use Rattle.call_answer.specs.Answering.{answer_on, done_bytes, issue_answer, issued_bytes, outcome_bytes, question_answer, second_opening, settled_bytes}
 use Rattle.call_answer.specs.declared.Answered.{Answered}
 use Rattle.call_answer.specs.declared.Answered.TheVariants as answered
 use Rattle.line_read.specs.Named.{printing_read}
@@ -134,7 +134,7 @@ pub session : Session
 unfolding all_words complement of_complement holds_table is_spelt rewritten table_of words_of digit_of digits_of hex_line is_digit value_of big_endian number_from is_line just_lf
     pair_of pairs length_of read written entries fields_read has_shape padded starts_with line_bytes written_each is_of line_read issue_read opening_read operation_read
     question_read settling_read bytes_of list_bytes refusal_bytes reply_bytes frame_bytes frame_of header_read local_of opened_as opened_by received_as received_on settled_as
-    settled_on answer_on done_bytes issue_answer issued_bytes opened_bytes question_answer received_bytes second_opening settled_bytes answer_of first_answer type_of kind_of characters
+    settled_on answer_on done_bytes issue_answer issued_bytes outcome_bytes question_answer outcome_bytes second_opening settled_bytes answer_of first_answer type_of kind_of characters
     line_saying printed_for lines_after answered_by lines_for printed_at space_after printing_read is_counter kind_in closing_line clock_line last_line opening_line row_line total_line
     last_lines row_lines saved_form total_lines said_after said_from answers_for
 session = record { whole_session_lem = refl; through_answer = refl; ends_with = refl; before_opening_lem = refl; at_table_lem = refl }
