@@ -26,7 +26,7 @@ use Rattle.form_save.specs.Saving.{saved_as, saved_by, saved_on}
 use Rattle.call_checked.specs.Called.{opened_by}
 use Rattle.call_answer.specs.Answering.{answer_on, changing, outcome_bytes, answered_after, frame_room}
 use Rattle.call_answer.proofs.Choosing.{told}
-use Rattle.call_answer.proofs.Short.{answer_short, opened_short, refusal_short}
+use Rattle.call_answer.proofs.Short.{answer_short, outcome_short, refusal_short}
 use Rattle.line_decode.specs.Decoding.{bytes_of, type_of}
 use Rattle.line_decode.specs.LineKinds.{kind_of}
 use Rattle.line_decode.specs.declared.LineKind.{LineKind}
@@ -53,7 +53,7 @@ module _ (line words : List ℕ) where
   none_opened = first_cases (λ k answer. (k ≡ kind.Opening → ⊥) → answer ≡ (refusal_bytes 14, words)) (λ n. absurd (n refl)) (λ k n. refl)
 
   first_fits : (k : LineKind) → length (first_answer k line words).0 ≤ longest_answer_bytes
-  first_fits = first_cases (λ k answer. length answer.0 ≤ longest_answer_bytes) (opened_short (opened_by line words).0) (λ k. refusal_short 14)
+  first_fits = first_cases (λ k answer. length answer.0 ≤ longest_answer_bytes) (outcome_short (opened_by line words).0) (λ k. refusal_short 14)
 
 -- on a table, and before an accepted opening
 module _ (line words out : List ℕ) (k : LineKind) (e : k ≡ kind_of (type_of line)) (b : Bool) (t : b ≡ holds_table words) where
@@ -70,8 +70,7 @@ module _ (line words out : List ℕ) (k : LineKind) (e : k ≡ kind_of (type_of 
     unfolding first_answer
     first_opens z r x g w y p = told out (outcome_bytes r) x (answer_of line words) (sym before ∙ rw z (ap (λ (q : Result (Unit {0}) ℕ × List ℕ). (outcome_bytes q.0, q.1)) (sym g))) w y x p refl
 
-    pub first_none : (k ≡ kind.Opening → ⊥) → (w : Result ℕ TooShort) (y : List ℕ) → (w, y) ≡ printed out refused (14 ∷ []) [] → (w, (words, y)) ≡ answered_after out (answer_of line words)
-    unfolding printed refusal_bytes
+    pub first_none : (k ≡ kind.Opening → ⊥) → (w : Result ℕ TooShort) (y : List ℕ) → (w, y) ≡ line_written out (refusal_bytes 14) → (w, (words, y)) ≡ answered_after out (answer_of line words)
     first_none n w y p = told out (refusal_bytes 14) words (answer_of line words) (sym before ∙ none_opened line words k n) w y words p refl
 
 -- every answer's line has room
@@ -150,11 +149,9 @@ module _ (line words out : List ℕ) (t : kind_of (type_of line) ≡ kind.Printi
     prints_as : (q : Result (Option ℕ) ℕ) → r ≡ q → Prints q y (lines_for line words) k out
     prints_as q h = subst (λ (u : Result (Option ℕ) ℕ). Prints u y (lines_for line words) k out) h prints
 
-    pub form_line : (n : ℕ) → r ≡ Ok (Some n) → (Some n, y) ≡ printed_at (lines_for line words) k out
-    form_line n h = prints_as (Ok (Some n)) h
-
-    pub form_end : r ≡ (Ok None) → (None, y) ≡ printed_at (lines_for line words) k out
-    form_end h = prints_as (Ok None) h
+    pub form_there : (there : Option ℕ) → r ≡ Ok there → (there, y) ≡ printed_at (lines_for line words) k out
+    form_there (Some n) h = prints_as (Ok (Some n)) h
+    form_there None h = prints_as (Ok None) h
 
     pub form_room : (number : ℕ) → r ≡ Err number → frame_room ≤ length y
     form_room number h = rw (prints_as (Err number) h).0 room

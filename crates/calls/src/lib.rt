@@ -67,13 +67,19 @@ pub fn ask(space: &[u32], line: &[u8], out: &mut [u32]) -> Result<Reply, Unanswe
 }
 
 // "saving 14, 1, 10": the line of the saved form at a place, from 0 on, goes into the lent space; the table is only looked at.
-pub fn save_line(space: &[u32], line: &[u8], k: usize, out: &mut [u8]) -> Result<Option<usize>, Refusal>
+pub fn save_line(
+    space: &[u32],
+    line: &[u8],
+    k: usize,
+    out: &mut [u8],
+) -> Result<Option<usize>, Refusal>
     ensures { (numbered result, out.new) ≡ saved_by line.now space.now k out.old }
 {
-    if !table_rules::is_table(space) {
-        return Err(Refusal::NoTable);
+    if table_rules::is_table(space) {
+        form_save::save_checked(space, line, k, out)
+    } else {
+        Err(Refusal::NoTable)
     }
-    form_save::save_checked(space, line, k, out)
 }
 
 // The characters of the longest answer line, LF included: a list of as many values as a table may have rows.
@@ -87,7 +93,12 @@ pub fn longest_answer() -> usize
 }
 
 // The one line that a line of this kind is answered with; before an accepted opening, 14 unless it is itself an opening.
-fn answer_first(space: &mut [u32], line: &[u8], kind: LineKind, out: &mut [u8]) -> Result<usize, TooShort>
+fn answer_first(
+    space: &mut [u32],
+    line: &[u8],
+    kind: LineKind,
+    out: &mut [u8],
+) -> Result<usize, TooShort>
     requires { (kind ≡ kind_of (type_of line.now)) × (frame_room ≤ length out.old) }
     ensures { (result, (space.new, out.new)) ≡ answered_after out.old (answer_of line.now space.old) }
 {
@@ -115,7 +126,12 @@ fn answer_printing(space: &[u32], line: &[u8], k: usize, out: &mut [u8]) -> Opti
 }
 
 // The k-th output line of the station program for an input line, from 0 on, or the end.
-pub fn answer(space: &mut [u32], line: &[u8], k: usize, out: &mut [u8; LONGEST_ANSWER]) -> Option<usize>
+pub fn answer(
+    space: &mut [u32],
+    line: &[u8],
+    k: usize,
+    out: &mut [u8; LONGEST_ANSWER],
+) -> Option<usize>
     ensures { (result, (space.new, out.new)) ≡ answered_by line.now k space.old out.old }
 {
     let kind = line_decode::kind_of(line);
