@@ -1,4 +1,7 @@
 -- The station program's answer to a line of each type is what the call of that type answers.
+use Rattle.question.specs.Told as reply
+use Rattle.std.proofs.Common.{Result, Ok, Err, Option, Some, None}
+use Rattle.line_read.specs.Named.{is_opening, is_operation, is_issue, is_settling, is_question}
 use mathlib.Core.Path.{◌≡◌, refl, sym, ap, ◌∙◌}
 use mathlib.Core.Logic.{◌≢◌}
 use mathlib.Core.Bool.{Bool, true, false, cond, false≢true}
@@ -18,7 +21,6 @@ use Rattle.meaning.specs.Calls.{after_arrival, outcome}
 use Rattle.words_layout.specs.Layout.{holds_table, rewritten, space_for, table_of}
 use Rattle.refusal_kind.specs.Asking.{asked_from}
 use Rattle.table_rules.proofs.Checking.{checked}
-use Rattle.question.specs.declared.Reply.TheVariants as reply
 use Rattle.question.specs.Replies.{replied}
 use Rattle.line_hex.specs.Choice.{pick}
 use Rattle.line_hex.specs.Hex.{digit_of, digits_of, hex_line}
@@ -28,10 +30,6 @@ use Rattle.line_put.specs.Writing.{line_bytes, line_written}
 use Rattle.line_read.specs.Types.{issue, opening, operation, printing, question, settling, longest_frame}
 use Rattle.line_read.specs.Named.{issue_read, opening_read, operation_read, printing_read, question_read, settling_read}
 use Rattle.call_question.specs.AnswerBytes.{list_bytes, refusal_bytes, reply_bytes}
-use Rattle.call_checked.specs.declared.Issued.TheVariants as issued
-use Rattle.call_checked.specs.declared.Opened.TheVariants as opened
-use Rattle.call_checked.specs.declared.Received.TheVariants as received
-use Rattle.call_checked.specs.declared.Settled.TheVariants as settled
 use Rattle.call_checked.specs.Called.{frame_bytes, frame_of, framed_as, header_read, issued_as, issued_on, local_of, opened_as, opened_by, received_as, received_on, replied_on, settled_as, settled_on}
 use Rattle.call_answer.specs.Answering.{answer_on, changing, issue_answer, issued_bytes, outcome_bytes, question_answer, second_opening, settled_bytes, frame_room}
 use Rattle.line_decode.specs.Decoding.{bytes_of, type_of}
@@ -41,16 +39,12 @@ use Rattle.line_decode.specs.declared.LineKind.TheVariants as kind
 use Rattle.line_decode.proofs.KindOfType.{shaped_type}
 use Rattle.call_answer.proofs.Framing.{frame_room_lem}
 use Rattle.form_write.specs.Forms.{saved_form}
-use Rattle.form_save.specs.declared.Saved.{Saved}
-use Rattle.form_save.specs.declared.Saved.TheVariants as saved
 use Rattle.form_save.specs.Saving.{saved_by}
-use Rattle.call_answer.specs.declared.Answered.{Answered}
-use Rattle.call_answer.specs.declared.Answered.TheVariants as answered
 use Rattle.calls.specs.Answers.{answer_of, answered_by, first_answer, lines_for, longest_answer}
 use Rattle.call_answer.specs.OutputLines.{printed_at}
 use Rattle.calls.specs.Calls as calls
 use Rattle.calls.specs.Calls.{received_by, replied_by, settled_by}
-use Rattle.calls.proofs.Answering.{answer_formed, first_cases, form_end, form_line, form_refused, one_line}
+use Rattle.calls.proofs.Answering.{answer_formed, first_cases, form_there, form_refused, one_line}
 use Rattle.law_agreement.specs.Conditions.{is_line_of}
 use Rattle.law_agreement.specs.Lines.{ByType, is_done, issued_answer, replied_answer, saved_answer}
 use Rattle.law_agreement.proofs.Shaping.{printing_shaped}
@@ -66,7 +60,7 @@ module _ (line words : List ℕ) where
   unfolding answer_on first_answer kind_of received_by outcome_bytes
   told_frame z = by_table kind.Operation (rw z refl) ∙ by (holds_table words)
     where
-      by : (b : Bool) → pick {A = List ℕ × List ℕ} b (outcome_bytes (received_on line words).0, (received_on line words).1) (refusal_bytes 14, words) ≡ changing outcome_bytes (pick b (received_on line words) (received.Refused 14, words))
+      by : (b : Bool) → pick {A = List ℕ × List ℕ} b (outcome_bytes (received_on line words).0, (received_on line words).1) (refusal_bytes 14, words) ≡ changing outcome_bytes (pick b (received_on line words) (Err 14, words))
       by true = refl
       by false = refl
 
@@ -74,7 +68,7 @@ module _ (line words : List ℕ) where
   unfolding answer_on first_answer kind_of settled_by settled_bytes
   told_settling z = by_table kind.Settling (rw z refl) ∙ by (holds_table words)
     where
-      by : (b : Bool) → pick {A = List ℕ × List ℕ} b (settled_bytes (settled_on line words).0, (settled_on line words).1) (refusal_bytes 14, words) ≡ changing settled_bytes (pick b (settled_on line words) (settled.Refused 14, words))
+      by : (b : Bool) → pick {A = List ℕ × List ℕ} b (settled_bytes (settled_on line words).0, (settled_on line words).1) (refusal_bytes 14, words) ≡ changing settled_bytes (pick b (settled_on line words) (Err 14, words))
       by true = refl
       by false = refl
 
@@ -104,7 +98,7 @@ list_room = length-replicate {A = ℕ} most_rows 0
 
 question_told : (line words : List ℕ) → question_answer line words ≡ replied_answer (replied_on line words (zeros most_rows))
 unfolding question_answer replied_on replied_answer
-question_told line words = by (question_read (bytes_of line)).ok
+question_told line words = by (is_question (bytes_of line))
   where
     asked : asks.Asked
     asked = asked_from (question_read (bytes_of line)).object (question_read (bytes_of line)).question (question_read (bytes_of line)).value
@@ -138,7 +132,7 @@ outcome_told words out number u t fits = by (eqb number 0)
 
 issue_told : (line words : List ℕ) → holds_table words ≡ true → characters (issue_answer line words) ≡ issued_answer (issued_on line words (zeros longest_frame))
 unfolding issue_answer issued_on issued_answer meaning.issue
-issue_told line words held = by (issue_read (bytes_of line)).ok
+issue_told line words held = by (is_issue (bytes_of line))
   where
     local : Local
     local = local_of (issue_read (bytes_of line))
@@ -149,7 +143,7 @@ issue_told line words held = by (issue_read (bytes_of line)).ok
     fits : leb (length (hex_line (frame_bytes u))) (length (zeros longest_frame)) ≡ true
     fits = rw zeros_frame (le-leb (length (hex_line (frame_bytes u))) longest_frame (frame_room_lem words (checked words held) local))
 
-    by : (b : Bool) → characters (pick b (issued_bytes words (meaning.issue (table_of words) local)) (refusal_bytes 1, words)) ≡ issued_answer (pick b (issued_as words (zeros longest_frame) (meaning.issue (table_of words) local)) (issued.Refused 1, (words, zeros longest_frame)))
+    by : (b : Bool) → characters (pick b (issued_bytes words (meaning.issue (table_of words) local)) (refusal_bytes 1, words)) ≡ issued_answer (pick b (issued_as words (zeros longest_frame) (meaning.issue (table_of words) local)) (Err 1, (words, zeros longest_frame)))
     by true = outcome_told words (zeros longest_frame) (refusal_of_local (table_of words) local) u (after_arrival (table_of words) u (table_of words).last) fits
     by false = refl
 
@@ -165,22 +159,22 @@ module _ (line words : List ℕ) (t : type_of line ≡ printing.type_byte) where
   prints = rw t refl
 
   module _ (place : ℕ) (out : List ℕ) (long : length out ≡ longest_answer) where
-    abbrev given : Saved × List ℕ
+    abbrev given : Result (Option ℕ) ℕ × List ℕ
     given = saved_by line words place out
 
     room : frame_room ≤ length out
     room = omega (arith, long)
 
-    at_place : (a : Answered) (y : List ℕ) → (a, y) ≡ printed_at (lines_for line words) place out → answered_by line place words out ≡ (a, (words, y))
+    at_place : (a : Option ℕ) (y : List ℕ) → (a, y) ≡ printed_at (lines_for line words) place out → answered_by line place words out ≡ (a, (words, y))
     at_place a y e = sym (answer_formed line words out (kind_of (type_of line)) refl prints place long a y e)
 
-    told_saved : (q : Saved) → given.0 ≡ q → answered_by line place words out ≡ saved_answer words place (q, given.1)
+    told_saved : (q : Result (Option ℕ) ℕ) → given.0 ≡ q → answered_by line place words out ≡ saved_answer words place (q, given.1)
     unfolding saved_answer
-    told_saved (saved.Refused number) h =
+    told_saved (Err number) h =
         let told = printed_at (refusal_bytes number ∷ []) place given.1 in
         at_place told.0 told.1 (form_refused line words out prints room place given.0 given.1 refl number h told.0 told.1 refl)
-    told_saved (saved.Line n) h = at_place (answered.Line n) given.1 (form_line line words out prints room place given.0 given.1 refl n h)
-    told_saved saved.End h = at_place answered.End given.1 (form_end line words out prints room place given.0 given.1 refl h)
+    told_saved (Ok (Some n)) h = at_place (Some n) given.1 (form_there line words out prints room place given.0 given.1 refl (Some n) h)
+    told_saved (Ok None) h = at_place None given.1 (form_there line words out prints room place given.0 given.1 refl None h)
 
   told_form : (place : ℕ) (out : List ℕ) → length out ≡ longest_answer → answered_by line place words out ≡ saved_answer words place (saved_by line words place out)
   told_form place out long = told_saved place out long (saved_by line words place out).0 refl
@@ -207,7 +201,7 @@ module _ (line words : List ℕ) where
   told_issue z = ap characters (by_table line words kind.Issue (rw z refl)) ∙ by (holds_table words) (issue_told line words)
     where
       by : (b : Bool) → (b ≡ true → characters (issue_answer line words) ≡ issued_answer (issued_on line words (zeros longest_frame))) →
-          characters (pick b (issue_answer line words) (refusal_bytes 14, words)) ≡ issued_answer (pick b (issued_on line words (zeros longest_frame)) (issued.Refused 14, (words, zeros longest_frame)))
+          characters (pick b (issue_answer line words) (refusal_bytes 14, words)) ≡ issued_answer (pick b (issued_on line words (zeros longest_frame)) (Err 14, (words, zeros longest_frame)))
       by true f = f refl
       by false f = refl
 
@@ -259,19 +253,19 @@ module _ (line words : List ℕ) where
   quiet_table : (k : LineKind) → Quiet (answer_on k line words)
   unfolding answer_on received_on issue_answer settled_on
   quiet_table kind.Opening = λ _. refl
-  quiet_table kind.Operation = by (operation_read (bytes_of line)).ok
+  quiet_table kind.Operation = by (is_operation (bytes_of line))
     where
-      by : (b : Bool) → Quiet (changing outcome_bytes (pick b (received_as words (meaning.receive (table_of words) (frame_of (operation_read (bytes_of line))))) (received.Refused 1, words)))
+      by : (b : Bool) → Quiet (changing outcome_bytes (pick b (received_as words (meaning.receive (table_of words) (frame_of (operation_read (bytes_of line))))) (Err 1, words)))
       by true = quiet_frame (meaning.receive (table_of words) (frame_of (operation_read (bytes_of line))))
       by false = λ _. refl
-  quiet_table kind.Issue = by (issue_read (bytes_of line)).ok
+  quiet_table kind.Issue = by (is_issue (bytes_of line))
     where
       by : (b : Bool) → Quiet (pick b (issued_bytes words (meaning.issue (table_of words) (local_of (issue_read (bytes_of line))))) (refusal_bytes 1, words))
       by true = quiet_issue (meaning.issue (table_of words) (local_of (issue_read (bytes_of line))))
       by false = λ _. refl
-  quiet_table kind.Settling = by (settling_read (bytes_of line)).ok
+  quiet_table kind.Settling = by (is_settling (bytes_of line))
     where
-      by : (b : Bool) → Quiet (changing settled_bytes (pick b (settled_as words (meaning.settle (table_of words) (settling_read (bytes_of line)).limit)) (settled.Refused 1, words)))
+      by : (b : Bool) → Quiet (changing settled_bytes (pick b (settled_as words (meaning.settle (table_of words) (settling_read (bytes_of line)).limit)) (Err 1, words)))
       by true = quiet_settling (meaning.settle (table_of words) (settling_read (bytes_of line)).limit)
       by false = λ _. refl
   quiet_table kind.Question = λ _. refl
@@ -281,12 +275,12 @@ module _ (line words : List ℕ) where
 
   quiet_opened : Quiet (changing outcome_bytes (opened_by line words))
   unfolding opened_by
-  quiet_opened = by (opening_read (bytes_of line)).ok
+  quiet_opened = by (is_opening (bytes_of line))
     where
       opens : meaning.Opening
       opens = meaning.open_table (length words) (space_for (header_read (bytes_of line)).size (header_read (bytes_of line)).capacity) (header_read (bytes_of line))
 
-      by : (b : Bool) → Quiet (changing outcome_bytes (pick b (opened_as words opens) (opened.Refused 1, words)))
+      by : (b : Bool) → Quiet (changing outcome_bytes (pick b (opened_as words opens) (Err 1, words)))
       by true = quiet_opening opens
       by false = λ _. refl
 

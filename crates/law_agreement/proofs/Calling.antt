@@ -1,4 +1,7 @@
 -- Any calls, with any lines, one after the other over a space that was opened: what the space holds is what the meaning reaches.
+use Rattle.question.specs.Told as reply
+use Rattle.std.proofs.Common.{Result, Ok, Err}
+use Rattle.line_read.specs.Named.{is_opening, is_operation, is_issue, is_settling, is_question}
 use mathlib.Core.Path.{◌≡◌, refl, sym, ap, ap₂, ◌∙◌, subst}
 use mathlib.Core.Bool.{Bool, true, false, ◌&&◌, false≢true}
 use mathlib.Core.List.{List, [], ◌∷◌, ◌++◌, map}
@@ -24,7 +27,6 @@ use Rattle.words_layout.specs.Layout.{holds_table, table_of, rewritten, row_of, 
 use Rattle.words_layout.proofs.Pieces.{map_back}
 use Rattle.words_layout.proofs.Whole.{each_spelt}
 use Rattle.refusal_kind.specs.Asking.{asked_from}
-use Rattle.question.specs.declared.Reply.TheVariants as reply
 use Rattle.question.specs.Replies.{replied}
 use Rattle.table_rules.specs.Checked.{Checked}
 use Rattle.table_rules.proofs.Checking.{checked}
@@ -34,11 +36,6 @@ use Rattle.line_hex.specs.Hex.{hex_line}
 use Rattle.line_put.specs.Writing.{line_written}
 use Rattle.line_read.specs.Named.{issue_read, opening_read, operation_read, question_read, settling_read}
 use Rattle.line_decode.specs.Decoding.{bytes_of}
-use Rattle.call_checked.specs.declared.Opened.{Opened}
-use Rattle.call_checked.specs.declared.Opened.TheVariants as called
-use Rattle.call_checked.specs.declared.Received.TheVariants as received
-use Rattle.call_checked.specs.declared.Issued.TheVariants as issued
-use Rattle.call_checked.specs.declared.Settled.TheVariants as settled
 use Rattle.calls.specs.Calls as calls
 use Rattle.call_checked.specs.Called.{frame_bytes, frame_of, framed_as, header_read, issued_as, issued_on, local_of, opened_as, opened_by, replied_on, received_as, received_on, settled_as, settled_on}
 use Rattle.calls.specs.Calls.{replied_by, received_by, settled_by}
@@ -78,12 +75,12 @@ module _ (words : List ℕ) (station : Station) (H : Holds words station) where
 
   receive_holds : (line : List ℕ) → Holds (received_by line words).1 (after_all (events_of (receives line) words) station)
   unfolding received_by received_on events_of after_all
-  receive_holds line = rw H.held (by (operation_read (bytes_of line)).ok)
+  receive_holds line = rw H.held (by (is_operation (bytes_of line)))
     where
       frame : Frame
       frame = frame_of (operation_read (bytes_of line))
 
-      by : (b : Bool) → Holds (pick b (received_as words (meaning.receive (table_of words) frame)) (received.Refused 1, words)).1 (after_all (pick b (history.receives frame ∷ []) []) station)
+      by : (b : Bool) → Holds (pick b (received_as words (meaning.receive (table_of words) frame)) (Err 1, words)).1 (after_all (pick b (history.receives frame ∷ []) []) station)
       by true = receive_event frame
       by false = H
 
@@ -95,12 +92,12 @@ module _ (words : List ℕ) (station : Station) (H : Holds words station) where
 
   settle_holds : (line : List ℕ) → Holds (settled_by line words).1 (after_all (events_of (settles line) words) station)
   unfolding settled_by settled_on events_of after_all
-  settle_holds line = rw H.held (by (settling_read (bytes_of line)).ok)
+  settle_holds line = rw H.held (by (is_settling (bytes_of line)))
     where
       limit : ℕ
       limit = (settling_read (bytes_of line)).limit
 
-      by : (b : Bool) → Holds (pick b (settled_as words (meaning.settle (table_of words) limit)) (settled.Refused 1, words)).1 (after_all (pick b (history.settles limit ∷ []) []) station)
+      by : (b : Bool) → Holds (pick b (settled_as words (meaning.settle (table_of words) limit)) (Err 1, words)).1 (after_all (pick b (history.settles limit ∷ []) []) station)
       by true = settle_event limit (limit_read (bytes_of line) (decoded_bytes line))
       by false = H
 
@@ -125,13 +122,13 @@ module _ (words : List ℕ) (station : Station) (H : Holds words station) where
 
   issue_holds : (line out : List ℕ) → Holds (calls.issued_by line words out).1.0 (after_all (events_of (issues line out) words) station)
   unfolding calls.issued_by issued_on events_of after_all frame_fits
-  issue_holds line out = rw H.held (by (issue_read (bytes_of line)).ok (fits local out) (issue_event local out))
+  issue_holds line out = rw H.held (by (is_issue (bytes_of line)) (fits local out) (issue_event local out))
     where
       local : Local
       local = local_of (issue_read (bytes_of line))
 
       by : (b c : Bool) → Holds (issued_as words out (meaning.issue (table_of words) local)).1.0 (pick c (after (history.issues local) station) station) →
-          Holds (pick b (issued_as words out (meaning.issue (table_of words) local)) (issued.Refused 1, (words, out))).1.0 (after_all (pick (b && c) (history.issues local ∷ []) []) station)
+          Holds (pick b (issued_as words out (meaning.issue (table_of words) local)) (Err 1, (words, out))).1.0 (after_all (pick (b && c) (history.issues local ∷ []) []) station)
       by true true h = h
       by true false h = h
       by false c h = H
@@ -190,11 +187,11 @@ module _ (header : Header) (ranged : in_range header ≡ true) (events : List Ev
         rows_spelt now (checked now H.held) ∙ ap₂ (λ (n : ℕ) (rows : List Row). map (row_words n) rows) size same ∙ sym (rows_spelt there (checked there H'.held))
 
 -- an opening that is taken
-is_fresh : Opened → Bool
-is_fresh (called.Refused number) = false
-is_fresh called.Fresh = true
+is_fresh : Result (Unit {0}) ℕ → Bool
+is_fresh (Err number) = false
+is_fresh (Ok tt) = true
 
-module _ (line before words : List ℕ) (e : opened_by line before ≡ (called.Fresh, words)) where
+module _ (line before words : List ℕ) (e : opened_by line before ≡ (Ok tt, words)) where
   abbrev header : Header
   header = header_read (bytes_of line)
 
@@ -207,23 +204,23 @@ module _ (line before words : List ℕ) (e : opened_by line before ≡ (called.F
   abbrev refusal : ℕ
   refusal = first_of (opening_refusals (length before) needed header)
 
-  not_fresh : (number : ℕ) → ◌≡◌ {A = Opened × List ℕ} (called.Refused number, before) (called.Fresh, words) → ⊥
+  not_fresh : (number : ℕ) → ◌≡◌ {A = Result (Unit {0}) ℕ × List ℕ} (Err number, before) (Ok tt, words) → ⊥
   unfolding is_fresh
-  not_fresh number f = false≢true (ap (λ (p : Opened × List ℕ). is_fresh p.0) f)
+  not_fresh number f = false≢true (ap (λ (p : Result (Unit {0}) ℕ × List ℕ). is_fresh p.0) f)
 
-  by_table : opened_as before (meaning.open_table (length before) needed header) ≡ (called.Fresh, words) → (in_range header ≡ true) × (words ≡ laid)
+  by_table : opened_as before (meaning.open_table (length before) needed header) ≡ (Ok tt, words) → (in_range header ≡ true) × (words ≡ laid)
   unfolding opened_as meaning.open_table opened
   by_table f = cases (eqb refusal 0)
-      (λ q. (open_ranges before needed header refusal refl (eqb-true refusal 0 q), sym (ap (λ (p : Opened × List ℕ). p.1) (rw q at f))))
+      (λ q. (open_ranges before needed header (sym (eqb-true refusal 0 q)), sym (ap (λ (p : Result (Unit {0}) ℕ × List ℕ). p.1) (rw q at f))))
       (λ q. absurd (not_fresh refusal (rw q at f)))
 
-  by_shape : (b : Bool) → pick b (opened_as before (meaning.open_table (length before) needed header)) (called.Refused 1, before) ≡ (called.Fresh, words) → (in_range header ≡ true) × (words ≡ laid)
+  by_shape : (b : Bool) → pick b (opened_as before (meaning.open_table (length before) needed header)) (Err 1, before) ≡ (Ok tt, words) → (in_range header ≡ true) × (words ≡ laid)
   by_shape true f = by_table f
   by_shape false f = absurd (not_fresh 1 f)
 
   fresh_is : (in_range header ≡ true) × (words ≡ laid)
   unfolding opened_by
-  fresh_is = by_shape (opening_read (bytes_of line)).ok e
+  fresh_is = by_shape (is_opening (bytes_of line)) e
 
   pub opening_in_range : in_range header ≡ true
   opening_in_range = fresh_is.0
@@ -246,19 +243,19 @@ module _ (line before words : List ℕ) (e : opened_by line before ≡ (called.F
     holds_reached = calls_hold list words (reached header []) opened_holds
 
     -- every question that is answered gets what the definitions say over all operations accepted so far, whatever settling came between
-    pub every_answer : (question out : List ℕ) → (question_read (bytes_of question)).ok ≡ true →
+    pub every_answer : (question out : List ℕ) → (is_question (bytes_of question)) ≡ true →
         let asked = question_read (bytes_of question) in
         replied_by question now_words out ≡ replied (meant header station.accepted (length out) (asked_from asked.object asked.question asked.value)) out
     unfolding replied_by replied_on
     every_answer question out ok =
         let asked = asked_from (question_read (bytes_of question)).object (question_read (bytes_of question)).question (question_read (bytes_of question)).value in
         picked (holds_table now_words) (replied_on question now_words out) (reply.Refused 14, out) holds_reached.held
-        ∙ picked (question_read (bytes_of question)).ok (replied (meaning.ask (table_of now_words) (length out) asked) out) (reply.Refused 1, out) ok
+        ∙ picked (is_question (bytes_of question)) (replied (meaning.ask (table_of now_words) (length out) asked) out) (reply.Refused 1, out) ok
         ∙ ap (λ (r : meaning.Reply). replied r out) (reply_meant header opening_in_range (events_of_all list words) now_words holds_reached (length out) asked)
 
 -- two spaces, each opened and used by any calls, whose stations have the same objects and have accepted the same operations
-module _ (line before words : List ℕ) (e : opened_by line before ≡ (called.Fresh, words)) (list : List Call)
-    (line' before' words' : List ℕ) (e' : opened_by line' before' ≡ (called.Fresh, words')) (list' : List Call)
+module _ (line before words : List ℕ) (e : opened_by line before ≡ (Ok tt, words)) (list : List Call)
+    (line' before' words' : List ℕ) (e' : opened_by line' before' ≡ ((Ok tt), words')) (list' : List Call)
     (objects : (header_read (bytes_of line)).kinds ≡ (header_read (bytes_of line')).kinds)
     (to : Within (station line before words e list).accepted (station line' before' words' e' list').accepted)
     (from : Within (station line' before' words' e' list').accepted (station line before words e list).accepted) where
@@ -283,7 +280,7 @@ module _ (line before words : List ℕ) (e : opened_by line before ≡ (called.F
       reply_agrees (header_read (bytes_of line)) (opening_in_range line before words e) (events_of_all list words) here H
       (header_read (bytes_of line')) (opening_in_range line' before' words' e') (events_of_all list' words') there H' objects to from (length out) asked in
       picked (holds_table here) (replied_on question here out) (reply.Refused 14, out) H.held
-      ∙ ap (λ (r : meaning.Reply). pick (question_read (bytes_of question)).ok (replied r out) (reply.Refused 1, out)) same
+      ∙ ap (λ (r : meaning.Reply). pick (is_question (bytes_of question)) (replied r out) (reply.Refused 1, out)) same
       ∙ sym (picked (holds_table there) (replied_on question there out) (reply.Refused 14, out) H'.held)
 
   -- "fully settled ones hold the same bytes": in groups of one size the words of their rows are the same

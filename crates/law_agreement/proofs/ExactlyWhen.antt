@@ -1,4 +1,9 @@
 -- Each call gives each number exactly when 01 says, in its own order and only then; a refusal changes no word and no byte.
+use Rattle.question.specs.Told as reply
+use Rattle.question.specs.Told.{Told}
+use Rattle.std.proofs.Common.{Result, Err, Option}
+use Rattle.words_tags.specs.declared.RowCount.{RowCount}
+use Rattle.line_read.specs.Named.{is_opening, is_operation, is_issue, is_settling, is_question}
 use mathlib.Core.Path.{◌≡◌, refl, sym, ap, ◌∙◌}
 use mathlib.Core.Bool.{Bool, true, false, not, ◌&&◌, ◌||◌, cond, false≢true}
 use mathlib.Core.Logic.{◌≢◌, ◌↔◌}
@@ -19,8 +24,6 @@ use Rattle.meaning.proofs.Tests.{cases}
 use Rattle.meaning.proofs.Refusals.{number_at, given_at, distinct, exact}
 use Rattle.words_layout.specs.Layout.{holds_table, table_of, size_in, space_for}
 use Rattle.refusal_kind.specs.Asking.{asked_from}
-use Rattle.question.specs.declared.Reply.{Reply}
-use Rattle.question.specs.declared.Reply.TheVariants as reply
 use Rattle.question.specs.Replies.{number_of, replied}
 use Rattle.table_rules.specs.Checked.{Checked}
 use Rattle.table_rules.proofs.Checking.{checked}
@@ -32,17 +35,7 @@ use Rattle.line_read.specs.Named.{stations_of, issue_read, opening_read, operati
 use Rattle.line_decode.specs.Decoding.{bytes_of}
 use Rattle.form_write.specs.Forms.{line_at, saved_form}
 use Rattle.form_write.proofs.Lines.{line_none, line_there, line_too_short}
-use Rattle.form_save.specs.declared.Saved.{Saved}
-use Rattle.form_save.specs.declared.Saved.TheVariants as saved
 use Rattle.form_save.specs.Saving.{saved_as, saved_by, saved_on}
-use Rattle.call_checked.specs.declared.Opened.{Opened}
-use Rattle.call_checked.specs.declared.Opened.TheVariants as opened
-use Rattle.call_checked.specs.declared.Received.{Received}
-use Rattle.call_checked.specs.declared.Received.TheVariants as received
-use Rattle.call_checked.specs.declared.Issued.{Issued}
-use Rattle.call_checked.specs.declared.Issued.TheVariants as issued
-use Rattle.call_checked.specs.declared.Settled.{Settled}
-use Rattle.call_checked.specs.declared.Settled.TheVariants as settled
 use Rattle.calls.specs.Calls as calls
 use Rattle.call_checked.specs.Called.{frame_bytes, frame_of, framed_as, header_read, issued_as, issued_on, local_of, opened_as, opened_by, received_as, received_on, replied_on, settled_as, settled_on}
 use Rattle.calls.specs.Calls.{received_by, replied_by, settled_by}
@@ -94,17 +87,17 @@ module _ (line words : List ℕ) where
   abbrev header : tables.Header
   header = header_read (bytes_of line)
 
-  abbrev opens : ℕ → Opened × List ℕ
-  opens r = cond (eqb r 0) (open_result line words) (opened.Refused r, words)
+  abbrev opens : ℕ → Result (Unit {0}) ℕ × List ℕ
+  opens r = cond (eqb r 0) (open_result line words) (Err r, words)
 
   pub open_told : opened_by line words ≡ opens (first_of (open_conditions line words))
   unfolding opened_by open_conditions open_result opened_as meaning.open_table opening_refusals tables.opened
-  open_told = by (opening_read (bytes_of line)).ok wrong ∙ ap (λ (b : Bool). opens (cond (not b) 1 (cond wrong 13 0))) (opening_shaped line)
+  open_told = by (is_opening (bytes_of line)) wrong ∙ ap (λ (b : Bool). opens (cond (not b) 1 (cond wrong 13 0))) (opening_shaped line)
     where
       wrong : Bool
       wrong = not (in_range header) || ltb (length words) (space_for header.size header.capacity)
 
-      by : (b t : Bool) → pick b (opened_as words (cond (eqb (cond t 13 0) 0) (meaning.Opening.fresh (tables.opened header)) (meaning.Opening.refused (cond t 13 0)))) (opened.Refused 1, words) ≡ opens (cond (not b) 1 (cond t 13 0))
+      by : (b t : Bool) → pick b (opened_as words (cond (eqb (cond t 13 0) 0) (meaning.Opening.fresh (tables.opened header)) (meaning.Opening.refused (cond t 13 0)))) (Err 1, words) ≡ opens (cond (not b) 1 (cond t 13 0))
       by true true = refl
       by true false = refl
       by false t = refl
@@ -123,8 +116,8 @@ module _ (line words : List ℕ) where
   abbrev next : Table
   next = after_arrival table frame.operation (set table.last frame.operation.sender frame.operation.vector)
 
-  abbrev hears : ℕ → Received × List ℕ
-  hears r = cond (eqb r 0) (receive_result line words) (received.Refused r, words)
+  abbrev hears : ℕ → Result (Unit {0}) ℕ × List ℕ
+  hears r = cond (eqb r 0) (receive_result line words) (Err r, words)
 
   by_number : (r : ℕ) → received_as words (outcome r frame.operation next) ≡ hears r
   unfolding received_as outcome receive_result
@@ -132,7 +125,7 @@ module _ (line words : List ℕ) where
 
   -- a line that reads is of its type, with at most 16 stations; no table has more
   by_shape : (ok few shaped well same : Bool) (rest : ℕ) → ok ≡ (few && shaped) → (ok ≡ true → well ≡ same) → (few ≡ false → same ≡ false) →
-      pick ok (received_as words (outcome (cond (not well) 1 rest) frame.operation next)) (received.Refused 1, words) ≡ hears (cond (not shaped || not same) 1 rest)
+      pick ok (received_as words (outcome (cond (not well) 1 rest) frame.operation next)) (Err 1, words) ≡ hears (cond (not shaped || not same) 1 rest)
   by_shape true true true well same rest a w f = rw (w refl) (by_number (cond (not same) 1 rest))
   by_shape true true false well same rest a w f = absurd (false≢true (sym a))
   by_shape true false shaped well same rest a w f = absurd (false≢true (sym a))
@@ -148,7 +141,7 @@ module _ (line words : List ℕ) where
   receive_told : received_by line words ≡ hears (first_of (receive_conditions line words))
   unfolding received_by received_on receive_conditions meaning.receive refusal_of_frame arrival_refusals frame_refusals
   receive_told = on_table hears (holds_table words) _ _ (λ h.
-      by_shape (operation_read (bytes_of line)).ok (leb size greatest_size) (is_line_of operation size line) (well_shaped table.header frame) (eqb size table.header.size) _
+      by_shape (is_operation (bytes_of line)) (leb size greatest_size) (is_line_of operation size line) (well_shaped table.header frame) (eqb size table.header.size) _
       (operation_shaped line) (λ ok. frame_shaped (bytes_of line) (decoded_bytes line) ok table.header) (other_size (checked words h)))
 
 -- a local operation
@@ -168,8 +161,8 @@ module _ (line words out : List ℕ) where
   abbrev spelt : List ℕ
   spelt = hex_line (frame_bytes u)
 
-  abbrev issues : ℕ → Issued × (List ℕ × List ℕ)
-  issues r = cond (eqb r 0) (issue_result line words out) (issued.Refused r, (words, out))
+  abbrev issues : ℕ → Result ℕ ℕ × (List ℕ × List ℕ)
+  issues r = cond (eqb r 0) (issue_result line words out) (Err r, (words, out))
 
   framed : framed_as words after out (line_written out (frame_bytes u)) ≡ issues (cond (ltb (length out) (length spelt)) 10 0)
   unfolding framed_as line_written issue_result
@@ -201,10 +194,10 @@ module _ (line words out : List ℕ) where
   issue_told : calls.issued_by line words out ≡ issues (first_of (issue_conditions line words out))
   unfolding calls.issued_by issued_on issue_conditions meaning.issue
   issue_told = on_table issues (holds_table words) _ _ (λ h.
-      by (issue_read (bytes_of line)).ok _ (issued_by_number (refusal_of_local issues_to local) ∙ ap issues ten_behind)
+      by (is_issue (bytes_of line)) _ (issued_by_number (refusal_of_local issues_to local) ∙ ap issues ten_behind)
       ∙ ap (λ (b : Bool). issues (cond (not b) 1 behind)) (issue_shaped line))
     where
-      by : (b : Bool) (x : Issued × (List ℕ × List ℕ)) → x ≡ issues behind → pick b x (issued.Refused 1, (words, out)) ≡ issues (cond (not b) 1 behind)
+      by : (b : Bool) (x : Result ℕ ℕ × (List ℕ × List ℕ)) → x ≡ issues behind → pick b x (Err 1, (words, out)) ≡ issues (cond (not b) 1 behind)
       by true x f = f
       by false x f = refl
 
@@ -213,8 +206,8 @@ module _ (line words : List ℕ) where
   abbrev limit : ℕ
   limit = (settling_read (bytes_of line)).limit
 
-  abbrev settles : ℕ → Settled × List ℕ
-  settles r = cond (eqb r 0) (settle_result line words) (settled.Refused r, words)
+  abbrev settles : ℕ → Result RowCount ℕ × List ℕ
+  settles r = cond (eqb r 0) (settle_result line words) (Err r, words)
 
   limit_taken : (n : ℕ) → n ≤ greatest_limit → meaning.settle (table_of words) n ≡ meaning.Settled.settled (steps (table_of words) n) (with_rows (table_of words) (rows_settled (table_of words) n))
   unfolding meaning.settle refusal_of_settling settling_refusals
@@ -223,10 +216,10 @@ module _ (line words : List ℕ) where
   settle_told : settled_by line words ≡ settles (first_of (settle_conditions line words))
   unfolding settled_by settled_on settle_conditions settle_result settled_as
   settle_told = on_table settles (holds_table words) _ _ (λ h.
-      by (settling_read (bytes_of line)).ok _ (ap (settled_as words) (limit_taken limit (limit_read (bytes_of line) (decoded_bytes line))))
+      by (is_settling (bytes_of line)) _ (ap (settled_as words) (limit_taken limit (limit_read (bytes_of line) (decoded_bytes line))))
       ∙ ap (λ (b : Bool). settles (cond (not b) 1 0)) (settling_shaped line))
     where
-      by : (b : Bool) (x : Settled × List ℕ) → x ≡ settles 0 → pick b x (settled.Refused 1, words) ≡ settles (cond (not b) 1 0)
+      by : (b : Bool) (x : Result RowCount ℕ × List ℕ) → x ≡ settles 0 → pick b x (Err 1, words) ≡ settles (cond (not b) 1 0)
       by true x f = f
       by false x f = refl
 
@@ -238,7 +231,7 @@ module _ (line words out : List ℕ) where
   abbrev source : Source
   source = by_rows (table_of words)
 
-  abbrev answers : ℕ → Reply × List ℕ
+  abbrev answers : ℕ → Told × List ℕ
   answers r = cond (eqb r 0) (ask_result line words out) (ask_refusal line words r, out)
 
   replied_by_number : (r : ℕ) → replied (reply_of r source asked) out ≡ answers r
@@ -248,7 +241,7 @@ module _ (line words out : List ℕ) where
   ask_told : replied_by line words out ≡ answers (first_of (ask_conditions line words out))
   unfolding replied_by replied_on ask_conditions meaning.ask meaning.ask_of question_refusals asked_refusals ask_refusal
   ask_told = on_table answers (holds_table words) _ _ (λ h.
-      by (question_read (bytes_of line)).ok (well_asked asked) behind
+      by (is_question (bytes_of line)) (well_asked asked) behind
       ∙ ap (λ (b : Bool). answers (cond (not b || not (well_asked asked)) 1 behind)) (question_shaped line))
     where
       behind : ℕ
@@ -282,8 +275,8 @@ module _ (line words : List ℕ) (place : ℕ) (out : List ℕ) where
   abbrev asked_for : List ℕ
   asked_for = hex_line (get_or form place [])
 
-  abbrev saves : ℕ → Saved × List ℕ
-  saves r = cond (eqb r 0) (save_result words place out) (saved.Refused r, out)
+  abbrev saves : ℕ → Result (Option ℕ) ℕ × List ℕ
+  saves r = cond (eqb r 0) (save_result words place out) (Err r, out)
 
   abbrev short : ℕ
   short = first_of (drop 2 (save_conditions line words place out))
@@ -303,7 +296,7 @@ module _ (line words : List ℕ) (place : ℕ) (out : List ℕ) where
       by (printing_read (bytes_of line)) _ place_told
       ∙ ap (λ (b : Bool). saves (cond (not b) 1 short)) (printing_shaped line))
     where
-      by : (b : Bool) (x : Saved × List ℕ) → x ≡ saves short → pick b x (saved.Refused 1, out) ≡ saves (cond (not b) 1 short)
+      by : (b : Bool) (x : Result (Option ℕ) ℕ × List ℕ) → x ≡ saves short → pick b x (Err 1, out) ≡ saves (cond (not b) 1 short)
       by true x f = f
       by false x f = refl
 
@@ -313,21 +306,21 @@ module _ (line words : List ℕ) (place : ℕ) (out : List ℕ) where
 
 -- Each call: "Given exactly when", in "the order they are tried".
 pub record EachCall : Type 0 where
-  pub opening : (line words : List ℕ) → Exactly number_of_opened opened.Refused (1 ∷ 13 ∷ []) (open_conditions line words) words (open_result line words) (opened_by line words)
-  pub frame : (line words : List ℕ) → Exactly number_of_received received.Refused (14 ∷ 1 ∷ 2 ∷ 3 ∷ 4 ∷ 5 ∷ 6 ∷ 7 ∷ 8 ∷ []) (receive_conditions line words) words (receive_result line words) (received_by line words)
-  pub local : (line words out : List ℕ) → Exactly number_of_issued issued.Refused (14 ∷ 1 ∷ 3 ∷ 4 ∷ 9 ∷ 8 ∷ 10 ∷ []) (issue_conditions line words out) (words, out) (issue_result line words out) (calls.issued_by line words out)
-  pub settling : (line words : List ℕ) → Exactly number_of_settled settled.Refused (14 ∷ 1 ∷ []) (settle_conditions line words) words (settle_result line words) (settled_by line words)
+  pub opening : (line words : List ℕ) → Exactly number_of_opened Err (1 ∷ 13 ∷ []) (open_conditions line words) words (open_result line words) (opened_by line words)
+  pub frame : (line words : List ℕ) → Exactly number_of_received Err (14 ∷ 1 ∷ 2 ∷ 3 ∷ 4 ∷ 5 ∷ 6 ∷ 7 ∷ 8 ∷ []) (receive_conditions line words) words (receive_result line words) (received_by line words)
+  pub local : (line words out : List ℕ) → Exactly number_of_issued Err (14 ∷ 1 ∷ 3 ∷ 4 ∷ 9 ∷ 8 ∷ 10 ∷ []) (issue_conditions line words out) (words, out) (issue_result line words out) (calls.issued_by line words out)
+  pub settling : (line words : List ℕ) → Exactly number_of_settled Err (14 ∷ 1 ∷ []) (settle_conditions line words) words (settle_result line words) (settled_by line words)
   pub question : (line words out : List ℕ) → Exactly number_of (ask_refusal line words) (14 ∷ 1 ∷ 3 ∷ 12 ∷ 11 ∷ []) (ask_conditions line words out) out (ask_result line words out) (replied_by line words out)
-  pub saving : (line words : List ℕ) (place : ℕ) (out : List ℕ) → Exactly number_of_saved saved.Refused (14 ∷ 1 ∷ 10 ∷ []) (save_conditions line words place out) out (save_result words place out) (saved_by line words place out)
+  pub saving : (line words : List ℕ) (place : ℕ) (out : List ℕ) → Exactly number_of_saved Err (14 ∷ 1 ∷ 10 ∷ []) (save_conditions line words place out) out (save_result words place out) (saved_by line words place out)
 
 -- "Bad input gets exactly the refusal number that document 01 gives, in 01's order and only then, and a refusal changes no byte".
 pub exactly_when : EachCall
 unfolding number_of_opened number_of_received number_of_issued number_of_settled number_of_saved open_conditions receive_conditions issue_conditions settle_conditions ask_conditions save_conditions open_result receive_result issue_result settle_result
 exactly_when = record {
-  opening = λ line words. exactly number_of_opened opened.Refused (open_conditions line words) words (open_result line words) (opened_by line words) (λ n. refl) refl (open_told line words) refl;
-  frame = λ line words. exactly number_of_received received.Refused (receive_conditions line words) words (receive_result line words) (received_by line words) (λ n. refl) refl (receive_told line words) refl;
-  local = λ line words out. exactly number_of_issued issued.Refused (issue_conditions line words out) (words, out) (issue_result line words out) (calls.issued_by line words out) (λ n. refl) refl (issue_told line words out) refl;
-  settling = λ line words. exactly number_of_settled settled.Refused (settle_conditions line words) words (settle_result line words) (settled_by line words) (λ n. refl) refl (settle_told line words) refl;
+  opening = λ line words. exactly number_of_opened Err (open_conditions line words) words (open_result line words) (opened_by line words) (λ n. refl) refl (open_told line words) refl;
+  frame = λ line words. exactly number_of_received Err (receive_conditions line words) words (receive_result line words) (received_by line words) (λ n. refl) refl (receive_told line words) refl;
+  local = λ line words out. exactly number_of_issued Err (issue_conditions line words out) (words, out) (issue_result line words out) (calls.issued_by line words out) (λ n. refl) refl (issue_told line words out) refl;
+  settling = λ line words. exactly number_of_settled Err (settle_conditions line words) words (settle_result line words) (settled_by line words) (λ n. refl) refl (settle_told line words) refl;
   question = λ line words out. exactly number_of (ask_refusal line words) (ask_conditions line words out) out (ask_result line words out) (replied_by line words out) (reply_number line words out) (ask_number line words out) (ask_told line words out) refl;
-  saving = λ line words place out. exactly number_of_saved saved.Refused (save_conditions line words place out) out (save_result words place out) (saved_by line words place out) (λ n. refl) (save_number line words place out) (save_told line words place out) refl;
+  saving = λ line words place out. exactly number_of_saved Err (save_conditions line words place out) out (save_result words place out) (saved_by line words place out) (λ n. refl) (save_number line words place out) (save_told line words place out) refl;
 }

@@ -1,4 +1,6 @@
 -- The line that `issue` writes says the operation that the table accepted, and another table that hears it hears that operation.
+use Rattle.std.proofs.Common.{Result, Ok, Err}
+use Rattle.line_read.specs.Named.{is_operation}
 use mathlib.Core.Path.{◌≡◌, refl, sym, ap, ◌∙◌, subst}
 use mathlib.Core.Bool.{Bool, true, false, cond}
 use mathlib.Core.List.{List, ◌∷◌, ◌++◌}
@@ -22,7 +24,7 @@ use Rattle.table_rules.proofs.Checking.{checked}
 use Rattle.line_hex.specs.Hex.{hex_line}
 use Rattle.line_hex.specs.Numbers.{AllBytes}
 use Rattle.line_hex.proofs.Bytes.{all_bytes_drop}
-use Rattle.line_shape.specs.Reading.{fields_read, has_shape, padded}
+use Rattle.line_shape.specs.Reading.{fields_read, has_shape, is_shaped, padded}
 use Rattle.line_shape.specs.Shapes.{Fitting, read, length_of}
 use Rattle.line_read.specs.declared.Operation as lines
 use Rattle.line_read.specs.Types.{line_read, operation, shape_of, longest}
@@ -33,9 +35,6 @@ use Rattle.line_read.proofs.Spelling.{all_bytes_line_of}
 use Rattle.line_decode.specs.Decoding.{bytes_of}
 use Rattle.line_decode.proofs.Decoding.{bytes_back, decoded_bytes}
 use Rattle.form_write.proofs.ReadsBack.{below_every, fit_each}
-use Rattle.call_checked.specs.declared.Issued.{Issued}
-use Rattle.call_checked.specs.declared.Issued.TheVariants as issued
-use Rattle.call_checked.specs.declared.Received.TheVariants as received
 use Rattle.calls.specs.Calls as calls
 use Rattle.call_checked.specs.Called.{frame_bytes, frame_of, local_of, received_as, received_on}
 use Rattle.calls.specs.Calls.{received_by}
@@ -52,7 +51,7 @@ pub record Narrow (local : Local) : Type 0 where
   pub value : local.value < value_limit
 
 issue_narrow : (bytes : List ℕ) → AllBytes bytes → Narrow (local_of (issue_read bytes))
-unfolding local_of issue_read line_read fields_read read padded has_shape length_of
+unfolding local_of issue_read line_read fields_read is_shaped read padded has_shape length_of
 issue_narrow bytes h =
     let one = all_bytes_drop 1 bytes h in
     let two = all_bytes_drop 1 (drop 1 bytes) one in
@@ -83,16 +82,16 @@ module _ (words : List ℕ) (K : Checked words) (local : Local) (ok : refusal_of
       let own = K.own in
       (omega arith, (omega (arith, long), (omega arith, (narrow.object, (narrow.code, (narrow.value, fit_each 4 u.vector (below_every u.vector kept.clock_words)))))))
 
-  reads : operation_read (frame_bytes u) ≡ record { ok = true; stations = length u.vector; sender = u.sender; object = u.object; code = u.code; value = u.value; vector = padded greatest_size u.vector }
+  back : (is_operation (frame_bytes u) ≡ true) × (operation_read (frame_bytes u) ≡ record { stations = length u.vector; sender = u.sender; object = u.object; code = u.code; value = u.value; vector = padded greatest_size u.vector })
   unfolding frame_bytes
-  reads = operation_reads_back u.sender u.object u.code u.value u.vector (let few = K.few in omega (arith, long)) fitting
+  back = operation_reads_back u.sender u.object u.code u.value u.vector (let few = K.few in omega (arith, long)) fitting
 
-  reads_ok : (operation_read (frame_bytes u)).ok ≡ true
-  reads_ok = ap (λ (f : lines.Operation). f.ok) reads
+  reads_ok : is_operation (frame_bytes u) ≡ true
+  reads_ok = back.0
 
   reads_frame : frame_of (operation_read (frame_bytes u)) ≡ sent
   unfolding frame_of padded table_of issued_by
-  reads_frame = ap frame_of reads ∙ rw (take_at u.vector (replicate (greatest_size - length u.vector) 0) (length u.vector) refl, long) refl
+  reads_frame = ap frame_of back.1 ∙ rw (take_at u.vector (replicate (greatest_size - length u.vector) 0) (length u.vector) refl, long) refl
 
   line_back : bytes_of (hex_line (frame_bytes u)) ≡ frame_bytes u
   unfolding frame_bytes
@@ -104,7 +103,7 @@ pub record Says (words words' : List ℕ) (local : Local) (characters : List ℕ
   pub table_after : Table
   pub accepted : meaning.issue (table_of words) local ≡ meaning.Outcome.accepted issued_one table_after
   pub space_after_lem : words' ≡ rewritten words table_after
-  pub shaped : (operation_read (bytes_of characters)).ok ≡ true
+  pub shaped : (is_operation (bytes_of characters)) ≡ true
   pub frame : frame_of (operation_read (bytes_of characters)) ≡ record { size = (table_of words).header.size; operation = issued_one }
   -- another table that hears this line is offered this operation
   pub heard : (other : List ℕ) → holds_table other ≡ true → received_by characters other ≡ received_as other (meaning.receive (table_of other) (record { size = (table_of words).header.size; operation = issued_one }))
@@ -117,8 +116,8 @@ module _ (words : List ℕ) (K : Checked words) (local : Local) (ok : refusal_of
   unfolding meaning.issue outcome
   accepts = rw ok refl
 
-  shaped_line : (operation_read (bytes_of characters)).ok ≡ true
-  shaped_line = ap (λ (l : List ℕ). (operation_read l).ok) e ∙ reads_ok words K local ok narrow
+  shaped_line : (is_operation (bytes_of characters)) ≡ true
+  shaped_line = ap (λ (l : List ℕ). (is_operation l)) e ∙ reads_ok words K local ok narrow
 
   frame_line : frame_of (operation_read (bytes_of characters)) ≡ sent words K local ok narrow
   frame_line = ap (λ (l : List ℕ). frame_of (operation_read l)) e ∙ reads_frame words K local ok narrow
@@ -126,22 +125,22 @@ module _ (words : List ℕ) (K : Checked words) (local : Local) (ok : refusal_of
   hears_frame : (other : List ℕ) → holds_table other ≡ true → received_by characters other ≡ received_as other (meaning.receive (table_of other) (sent words K local ok narrow))
   unfolding received_by received_on
   hears_frame other h =
-      picked (holds_table other) (received_on characters other) (received.Refused 14, other) h
-      ∙ picked (operation_read (bytes_of characters)).ok (received_as other (meaning.receive (table_of other) (frame_of (operation_read (bytes_of characters))))) (received.Refused 1, other) shaped_line
+      picked (holds_table other) (received_on characters other) (Err 14, other) h
+      ∙ picked (is_operation (bytes_of characters)) (received_as other (meaning.receive (table_of other) (frame_of (operation_read (bytes_of characters))))) (Err 1, other) shaped_line
       ∙ ap (λ (f : Frame). received_as other (meaning.receive (table_of other) f)) frame_line
 
   says : Says words (rewritten words after) local characters
   says = record { issued_one = issued_by (table_of words) local; table_after = after; accepted = accepts; space_after_lem = refl; shaped = shaped_line; frame = frame_line; heard = hears_frame }
 
 -- the call
-frame_length : Issued → ℕ
-frame_length (issued.Refused number) = 0
-frame_length (issued.Frame n) = n
+frame_length : Result ℕ ℕ → ℕ
+frame_length (Err number) = 0
+frame_length (Ok n) = n
 
 none_given : (a b c d : Bool) → a ≡ false → b ≡ false → c ≡ false → d ≡ false → ◌≡◌ {A = ℕ} (cond a 3 (cond b 4 (cond c 9 (cond d 8 0)))) 0
 none_given a b c d e f g h = rw (e, f, g, h) refl
 
-module _ (line words out : List ℕ) (n : ℕ) (words' out' : List ℕ) (e : calls.issued_by line words out ≡ (issued.Frame n, (words', out'))) where
+module _ (line words out : List ℕ) (n : ℕ) (words' out' : List ℕ) (e : calls.issued_by line words out ≡ (Ok n, (words', out'))) where
   abbrev local : Local
   local = local_of (issue_read (bytes_of line))
 
@@ -150,7 +149,7 @@ module _ (line words out : List ℕ) (n : ℕ) (words' out' : List ℕ) (e : cal
 
   no_number : number_of_issued (calls.issued_by line words out).0 ≡ 0
   unfolding number_of_issued
-  no_number = ap (λ (p : Issued × (List ℕ × List ℕ)). number_of_issued p.0) e
+  no_number = ap (λ (p : Result ℕ ℕ × (List ℕ × List ℕ)). number_of_issued p.0) e
 
   none : (i : ℕ) → i < 7 → given_at (issue_conditions line words out) i ≡ false
   unfolding issue_conditions
@@ -164,19 +163,19 @@ module _ (line words out : List ℕ) (n : ℕ) (words' out' : List ℕ) (e : cal
   unfolding issue_conditions refusal_of_local local_refusals issue_refusals operation_allowed issued_by
   taken = none_given _ _ _ _ (none 2 (omega arith)) (none 3 (omega arith)) (none 4 (omega arith)) (none 5 (omega arith))
 
-  answer : (issued.Frame n, (words', out')) ≡ issue_result line words out
+  answer : (Ok n, (words', out')) ≡ issue_result line words out
   answer = sym e ∙ (exactly_when.local line words out).taken no_number
 
   characters : take n out' ≡ hex_line bytes
   unfolding issue_result frame_length
   characters =
-      let count : n ≡ length (hex_line bytes) = ap (λ (p : Issued × (List ℕ × List ℕ)). frame_length p.0) answer in
-      let space : out' ≡ hex_line bytes ++ drop (length (hex_line bytes)) out = ap (λ (p : Issued × (List ℕ × List ℕ)). p.1.1) answer in
+      let count : n ≡ length (hex_line bytes) = ap (λ (p : Result ℕ ℕ × (List ℕ × List ℕ)). frame_length p.0) answer in
+      let space : out' ≡ hex_line bytes ++ drop (length (hex_line bytes)) out = ap (λ (p : Result ℕ ℕ × (List ℕ × List ℕ)). p.1.1) answer in
       ap (take n) space ∙ take_at (hex_line bytes) (drop (length (hex_line bytes)) out) n (sym count)
 
   table_words_lem : words' ≡ rewritten words (after_arrival (table_of words) (issued_by (table_of words) local) (table_of words).last)
   unfolding issue_result
-  table_words_lem = ap (λ (p : Issued × (List ℕ × List ℕ)). p.1.0) answer
+  table_words_lem = ap (λ (p : Result ℕ ℕ × (List ℕ × List ℕ)). p.1.0) answer
 
   pub issued_line_reads_back : Says words words' local (take n out')
   issued_line_reads_back =

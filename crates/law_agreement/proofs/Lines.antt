@@ -1,4 +1,8 @@
 -- Any lines, one after the other, given to a space that an opening line was answered in: every question line gets what the definitions say.
+use Rattle.std.proofs.Common.{Result, Ok, Err}
+use Rattle.words_tags.specs.declared.RowCount.{RowCount}
+use Rattle.line_put.specs.declared.TooShort.{TooShort}
+use Rattle.line_read.specs.Named.{is_opening, is_operation, is_issue, is_settling, is_question}
 use mathlib.Core.Path.{◌≡◌, refl, sym, ap, ◌∙◌, subst}
 use mathlib.Core.Bool.{Bool, true, false, not, ◌&&◌, false≢true}
 use mathlib.Core.List.{List, [], ◌∷◌, ◌++◌, append-nil, append_assoc}
@@ -26,21 +30,12 @@ use Rattle.line_hex.specs.Hex.{hex_line}
 use Rattle.line_hex.specs.Numbers.{big_endian}
 use Rattle.line_hex.specs.Putting.{put_at}
 use Rattle.line_shape.specs.Shapes.{written}
-use Rattle.line_put.specs.Writing.{line_bytes}
-use Rattle.line_put.specs.declared.Written.{Written}
+use Rattle.line_put.specs.Writing.{line_written, line_bytes}
 use Rattle.line_read.specs.Types.{question, refused, longest_frame}
 use Rattle.line_read.specs.Named.{issue_read, opening_read, operation_read, question_read, settling_read}
 use Rattle.line_print.specs.Printed.{printed}
 use Rattle.call_question.specs.AnswerBytes.{list_bytes, refusal_bytes, reply_bytes}
 use Rattle.call_question.proofs.Told.{chain, never_long}
-use Rattle.call_checked.specs.declared.Issued.{Issued}
-use Rattle.call_checked.specs.declared.Issued.TheVariants as issued
-use Rattle.call_checked.specs.declared.Received.{Received}
-use Rattle.call_checked.specs.declared.Received.TheVariants as received
-use Rattle.call_checked.specs.declared.Settled.{Settled}
-use Rattle.call_checked.specs.declared.Settled.TheVariants as settled
-use Rattle.call_checked.specs.declared.Opened.{Opened}
-use Rattle.call_checked.specs.declared.Opened.TheVariants as opened
 use Rattle.call_checked.specs.Called.{frame_bytes, frame_of, header_read, issued_on, local_of, opened_by, received_as, received_on, settled_on}
 use Rattle.call_answer.specs.Answering.{answer_on, done_bytes, issue_answer, issued_bytes, outcome_bytes, question_answer, second_opening, settled_bytes, answered_after, frame_room}
 use Rattle.call_answer.proofs.Framing.{frame_room_lem, issue_framed, issue_refused}
@@ -96,12 +91,12 @@ module _ (line words : List ℕ) (held : holds_table words ≡ true) where
     abbrev space : List ℕ
     space = take 2 out ++ (y ++ drop (length out - 2) (drop 2 out))
 
-    issue_by : (r : Issued) → (r, (x, y)) ≡ issued_on line words lent → x ≡ (issue_answer line words).1
+    issue_by : (r : Result ℕ ℕ) → (r, (x, y)) ≡ issued_on line words lent → x ≡ (issue_answer line words).1
     unfolding answered_after
-    issue_by (issued.Refused number) e = ap (λ (q : Written × (List ℕ × List ℕ)). q.1.0)
-        (issue_refused words line out (checked words held) room (issued.Refused number) x y e number refl (printed space refused (number ∷ []) []).0 (printed space refused (number ∷ []) []).1 refl)
-    issue_by (issued.Frame n) e = ap (λ (q : Written × (List ℕ × List ℕ)). q.1.0)
-        (issue_framed words line out (checked words held) room (issued.Frame n) x y e n refl (put_at space 0 (big_endian 1 0)).0 (put_at space 0 (big_endian 1 0)).1 refl)
+    issue_by (Err number) e = ap (λ (q : Result ℕ TooShort × (List ℕ × List ℕ)). q.1.0)
+        (issue_refused words line out (checked words held) room (Err number) x y e number refl (line_written space (refusal_bytes number)).0 (line_written space (refusal_bytes number)).1 refl)
+    issue_by (Ok n) e = ap (λ (q : Result ℕ TooShort × (List ℕ × List ℕ)). q.1.0)
+        (issue_framed words line out (checked words held) room (Ok n) x y e n refl (put_at space 0 (big_endian 1 0)).0 (put_at space 0 (big_endian 1 0)).1 refl)
 
     issue_lent : x ≡ (issue_answer line words).1
     issue_lent = issue_by (issued_on line words lent).0 refl
@@ -116,9 +111,9 @@ module _ (line words : List ℕ) (held : holds_table words ≡ true) where
     where
       by : (k : LineKind) → (answer_on k line words).1 ≡ words_after_all (calls_as k line) words
       by kind.Opening = refl
-      by kind.Operation = sym (ap (λ (q : Received × List ℕ). q.1) (picked (holds_table words) (received_on line words) (received.Refused 14, words) held))
-      by kind.Issue = issue_words ∙ sym (ap (λ (q : Issued × (List ℕ × List ℕ)). q.1.0) (picked (holds_table words) (issued_on line words (zeros longest_frame)) (issued.Refused 14, (words, zeros longest_frame)) held))
-      by kind.Settling = sym (ap (λ (q : Settled × List ℕ). q.1) (picked (holds_table words) (settled_on line words) (settled.Refused 14, words) held))
+      by kind.Operation = sym (ap (λ (q : Result (Unit {0}) ℕ × List ℕ). q.1) (picked (holds_table words) (received_on line words) (Err 14, words) held))
+      by kind.Issue = issue_words ∙ sym (ap (λ (q : Result ℕ ℕ × (List ℕ × List ℕ)). q.1.0) (picked (holds_table words) (issued_on line words (zeros longest_frame)) (Err 14, (words, zeros longest_frame)) held))
+      by kind.Settling = sym (ap (λ (q : Result RowCount ℕ × List ℕ). q.1) (picked (holds_table words) (settled_on line words) (Err 14, words) held))
       by kind.Question = refl
       by kind.Printing = refl
       by kind.Saved = refl
@@ -157,9 +152,9 @@ module _ (line words : List ℕ) (s : Station) (H : Holds words s) where
 
   frame_accepted : (after_all (events_of (receives line) words) s).accepted ≡ pick (is_done (outcome_bytes (received_on line words).0)) (frame.operation ∷ []) [] ++ s.accepted
   unfolding events_of after_all after received_on outcome_bytes
-  frame_accepted = by (operation_read (bytes_of line)).ok
+  frame_accepted = by (is_operation (bytes_of line))
     where
-      by : (b : Bool) → (after_all (pick b (history.receives frame ∷ []) []) s).accepted ≡ pick (is_done (outcome_bytes (pick b (received_as words (meaning.receive (table_of words) frame)) (received.Refused 1, words)).0)) (frame.operation ∷ []) [] ++ s.accepted
+      by : (b : Bool) → (after_all (pick b (history.receives frame ∷ []) []) s).accepted ≡ pick (is_done (outcome_bytes (pick b (received_as words (meaning.receive (table_of words) frame)) (Err 1, words)).0)) (frame.operation ∷ []) [] ++ s.accepted
       by true = frame_taken
       by false = rw (refusal_not_done 1) refl
 
@@ -170,7 +165,7 @@ module _ (line words : List ℕ) (s : Station) (H : Holds words s) where
 
   issue_accepted : (after_all (events_of (issues line (zeros longest_frame)) words) s).accepted ≡ pick (is_done (issue_answer line words).0) (issued_by (table_of words) local ∷ []) [] ++ s.accepted
   unfolding events_of after_all after issue_answer frame_fits
-  issue_accepted = by (issue_read (bytes_of line)).ok (leb (length (hex_line (frame_bytes (issued_by (table_of words) local)))) (length (zeros longest_frame))) fitted
+  issue_accepted = by (is_issue (bytes_of line)) (leb (length (hex_line (frame_bytes (issued_by (table_of words) local)))) (length (zeros longest_frame))) fitted
     where
       fitted : leb (length (hex_line (frame_bytes (issued_by (table_of words) local)))) (length (zeros longest_frame)) ≡ true
       fitted = rw zeros_frame (le-leb (length (hex_line (frame_bytes (issued_by (table_of words) local)))) longest_frame (frame_room_lem words (checked words H.held) local))
@@ -188,7 +183,7 @@ module _ (line words : List ℕ) (s : Station) (H : Holds words s) where
 
   pub settle_accepted : (after_all (events_of (settles line) words) s).accepted ≡ s.accepted
   unfolding events_of after_all after
-  settle_accepted = by (settling_read (bytes_of line)).ok
+  settle_accepted = by (is_settling (bytes_of line))
     where
       by : (b : Bool) → (after_all (pick b (history.settles (settling_read (bytes_of line)).limit ∷ []) []) s).accepted ≡ s.accepted
       by true = settling_accepts (meaning.settle s.table (settling_read (bytes_of line)).limit)
@@ -271,17 +266,17 @@ module _ (line before words : List ℕ) (O : OpenedBy line before words) where
   not_done : (bytes after : List ℕ) → is_done bytes ≡ false → ◌≡◌ {A = List ℕ × List ℕ} (bytes, after) (done_bytes, words) → ⊥
   not_done bytes after f e = false≢true (sym f ∙ ap (λ (q : List ℕ × List ℕ). is_done q.0) e ∙ done_is_done)
 
-  by_opened : (r : Opened) (x : List ℕ) → ◌≡◌ {A = List ℕ × List ℕ} (outcome_bytes r, x) (done_bytes, words) → ◌≡◌ {A = Opened × List ℕ} (r, x) (opened.Fresh, words)
+  by_opened : (r : Result (Unit {0}) ℕ) (x : List ℕ) → ◌≡◌ {A = List ℕ × List ℕ} (outcome_bytes r, x) (done_bytes, words) → ◌≡◌ {A = Result (Unit {0}) ℕ × List ℕ} (r, x) ((Ok tt), words)
   unfolding outcome_bytes
-  by_opened (opened.Refused number) x e = absurd (not_done (refusal_bytes number) x (refusal_not_done number) e)
-  by_opened opened.Fresh x e = ap (λ (q : List ℕ × List ℕ). (opened.Fresh, q.1)) e
+  by_opened (Err number) x e = absurd (not_done (refusal_bytes number) x (refusal_not_done number) e)
+  by_opened (Ok tt) x e = ap (λ (q : List ℕ × List ℕ). ((Ok tt), q.1)) e
 
-  pub opened_fresh : opened_by line before ≡ (opened.Fresh, words)
+  pub opened_fresh : opened_by line before ≡ ((Ok tt), words)
   unfolding answer_of answer_on first_answer kind_of second_opening
   opened_fresh = by (holds_table before) (subst (λ (type : ℕ). pick (holds_table before) (answer_on (kind_of type) line before) (first_answer (kind_of type) line before) ≡ (done_bytes, words)) O.is_opening O.answered)
     where
-      by : (b : Bool) → pick {A = List ℕ × List ℕ} b (second_opening line, before) (outcome_bytes (opened_by line before).0, (opened_by line before).1) ≡ (done_bytes, words) → opened_by line before ≡ (opened.Fresh, words)
-      by true e = absurd (not_done (second_opening line) before (refusal_not_done (pick (opening_read (bytes_of line)).ok 13 1)) e)
+      by : (b : Bool) → pick {A = List ℕ × List ℕ} b (second_opening line, before) (outcome_bytes (opened_by line before).0, (opened_by line before).1) ≡ (done_bytes, words) → opened_by line before ≡ ((Ok tt), words)
+      by true e = absurd (not_done (second_opening line) before (refusal_not_done (pick (is_opening (bytes_of line)) 13 1)) e)
       by false e = by_opened (opened_by line before).0 (opened_by line before).1 e
 
   abbrev header : Header
@@ -319,7 +314,7 @@ module _ (line before words : List ℕ) (O : OpenedBy line before words) where
         let reply : meaning.ask (table_of now) most_rows asked ≡ meaning.meant header accepted most_rows asked =
         reply_meant header (opening_in_range line before words opened_fresh) events now lines_hold most_rows asked ∙ ap (λ (l : List Operation). meaning.meant header l most_rows asked) accepted_is in
         question_on asking now lines_hold.held type
-        ∙ ap (λ (r : meaning.Reply). (pick (question_read (bytes_of asking)).ok (reply_bytes r) (refusal_bytes 1), now)) reply
+        ∙ ap (λ (r : meaning.Reply). (pick (is_question (bytes_of asking)) (reply_bytes r) (refusal_bytes 1), now)) reply
 
 -- two spaces, each opened by a line that was answered `00` and given any lines, which declared the same objects and accepted the same operations
 module _ (line before words : List ℕ) (O : OpenedBy line before words) (lines : List (List ℕ))
@@ -360,7 +355,7 @@ module _ (line before words : List ℕ) (O : OpenedBy line before words) (lines 
       reply_agrees (header line before words O) (opening_in_range line before words (opened_fresh line before words O)) (events line before words O lines) here H
       (header line' before' words' O') (opening_in_range line' before' words' (opened_fresh line' before' words' O')) (events line' before' words' O' lines') there H' objects (same to) (same' from) most_rows asked in
       ap (λ (q : List ℕ × List ℕ). q.0) (question_on asking here H.held type)
-      ∙ ap (λ (r : meaning.Reply). pick (question_read (bytes_of asking)).ok (reply_bytes r) (refusal_bytes 1)) reply
+      ∙ ap (λ (r : meaning.Reply). pick (is_question (bytes_of asking)) (reply_bytes r) (refusal_bytes 1)) reply
       ∙ sym (ap (λ (q : List ℕ × List ℕ). q.0) (question_on asking there H'.held type))
 
   -- "fully settled ones hold the same bytes": in groups of one size the words of their rows are the same
@@ -392,7 +387,7 @@ chain_not_eleven source asked false false false e = false≢true (sym (refusal_n
 -- a line has room for every list, so that 11 is never given
 pub never_eleven : (line words : List ℕ) → holds_table words ≡ true → type_of line ≡ question.type_byte → (answer_of line words).0 ≡ refusal_bytes 11 → ⊥
 unfolding question_answer meaning.ask meaning.ask_of question_refusals asked_refusals
-never_eleven line words held type e = by (question_read (bytes_of line)).ok (sym (ap (λ (q : List ℕ × List ℕ). q.0) (question_on line words held type)) ∙ e)
+never_eleven line words held type e = by (is_question (bytes_of line)) (sym (ap (λ (q : List ℕ × List ℕ). q.0) (question_on line words held type)) ∙ e)
   where
     object : ℕ
     object = (question_read (bytes_of line)).object

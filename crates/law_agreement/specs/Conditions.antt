@@ -1,5 +1,9 @@
 -- 01's table of refusals, call by call: each number with its condition, in the order in which the call tries them. A number is given when its condition
 -- holds and that of no number before it does. Then the number of each answer, and what a call answers and leaves where it gives none.
+use Rattle.question.specs.Told as reply
+use Rattle.question.specs.Told.{Told}
+use Rattle.std.specs.Prelude.{Result, Ok, Err, Option, Some, None}
+use Rattle.words_tags.specs.declared.RowCount.{RowCount}
 use Rattle.std.specs.Prelude.{Bool, not, ◌&&◌, ◌||◌, cond, List, [], ◌∷◌, ◌++◌, ℕ, suc, leb, ltb, eqb, get_or, length, drop, set}
 use Rattle.meaning.specs.Order.{entry_limit, at_most}
 use Rattle.meaning.specs.Operations.{number_of}
@@ -10,8 +14,6 @@ use Rattle.meaning.specs.Refusals.{Refusal, ◌when◌, declared, operation_allo
 use Rattle.meaning.specs.Calls.{after_arrival, with_rows, rows_settled, steps, answered}
 use Rattle.words_layout.specs.Layout.{holds_table, table_of, rewritten, space_for, words_of}
 use Rattle.refusal_kind.specs.Asking.{asked_from}
-use Rattle.question.specs.declared.Reply.{Reply}
-use Rattle.question.specs.declared.Reply.TheVariants as reply
 use Rattle.question.specs.Replies.{replied}
 use Rattle.line_hex.specs.Decoding.{is_line}
 use Rattle.line_hex.specs.Hex.{hex_line}
@@ -19,16 +21,6 @@ use Rattle.line_read.specs.Types.{Line, is_of, longest, opening, operation, issu
 use Rattle.line_read.specs.Named.{count_of, stations_of, issue_read, operation_read, question_read, settling_read}
 use Rattle.line_decode.specs.Decoding.{bytes_of}
 use Rattle.form_write.specs.Forms.{saved_form}
-use Rattle.form_save.specs.declared.Saved.{Saved}
-use Rattle.form_save.specs.declared.Saved.TheVariants as saved
-use Rattle.call_checked.specs.declared.Opened.{Opened}
-use Rattle.call_checked.specs.declared.Opened.TheVariants as opened
-use Rattle.call_checked.specs.declared.Received.{Received}
-use Rattle.call_checked.specs.declared.Received.TheVariants as received
-use Rattle.call_checked.specs.declared.Issued.{Issued}
-use Rattle.call_checked.specs.declared.Issued.TheVariants as issued
-use Rattle.call_checked.specs.declared.Settled.{Settled}
-use Rattle.call_checked.specs.declared.Settled.TheVariants as settled
 use Rattle.call_checked.specs.Called.{header_read, local_of, frame_bytes, frame_of}
 
 -- Not "line not lower-case hexadecimal or without its LF", and not "wrong length or type": it has so many fields beyond those that each of its type has.
@@ -104,70 +96,70 @@ save_conditions line words place out =
     ∷ []
 
 -- The number of an answer, 0 where it is no refusal. A question's is `question`'s own.
-unfoldable pub number_of_opened : Opened → ℕ
-number_of_opened (opened.Refused number) = number
-number_of_opened opened.Fresh = 0
+unfoldable pub number_of_opened : Result (Unit {0}) ℕ → ℕ
+number_of_opened (Err number) = number
+number_of_opened (Ok tt) = 0
 
-unfoldable pub number_of_received : Received → ℕ
-number_of_received (received.Refused number) = number
-number_of_received received.Accepted = 0
+unfoldable pub number_of_received : Result (Unit {0}) ℕ → ℕ
+number_of_received (Err number) = number
+number_of_received (Ok tt) = 0
 
-unfoldable pub number_of_issued : Issued → ℕ
-number_of_issued (issued.Refused number) = number
-number_of_issued (issued.Frame length) = 0
+unfoldable pub number_of_issued : Result ℕ ℕ → ℕ
+number_of_issued (Err number) = number
+number_of_issued (Ok length) = 0
 
-unfoldable pub number_of_settled : Settled → ℕ
-number_of_settled (settled.Refused number) = number
-number_of_settled (settled.Steps count) = 0
+unfoldable pub number_of_settled : Result RowCount ℕ → ℕ
+number_of_settled (Err number) = number
+number_of_settled (Ok count) = 0
 
-unfoldable pub number_of_saved : Saved → ℕ
-number_of_saved (saved.Refused number) = number
-number_of_saved (saved.Line length) = 0
-number_of_saved saved.End = 0
+unfoldable pub number_of_saved : Result (Option ℕ) ℕ → ℕ
+number_of_saved (Err number) = number
+number_of_saved (Ok (Some length)) = 0
+number_of_saved (Ok None) = 0
 
 -- "11 also the count": what a question is told by its number.
-unfoldable pub ask_refusal : List ℕ → List ℕ → ℕ → Reply
+unfoldable pub ask_refusal : List ℕ → List ℕ → ℕ → Told
 ask_refusal line words number =
     let values = (by_rows (table_of words)).list_at (question_read (bytes_of line)).object in
     cond (eqb number 11) (reply.TooLong (record { 0 = length values })) (reply.Refused number)
 
 -- What a call answers and leaves where it gives no refusal. An opening: the fresh table.
-unfoldable pub open_result : List ℕ → List ℕ → Opened × List ℕ
+unfoldable pub open_result : List ℕ → List ℕ → Result (Unit {0}) ℕ × List ℕ
 open_result line words =
     let header = header_read (bytes_of line) in
-    (opened.Fresh, words_of (tables.opened header) ++ drop (space_for header.size header.capacity) words)
+    ((Ok tt), words_of (tables.opened header) ++ drop (space_for header.size header.capacity) words)
 
 -- A frame: the table after its arrival, and L with its vector.
-unfoldable pub receive_result : List ℕ → List ℕ → Received × List ℕ
+unfoldable pub receive_result : List ℕ → List ℕ → Result (Unit {0}) ℕ × List ℕ
 receive_result line words =
     let table = table_of words in
     let u = (frame_of (operation_read (bytes_of line))).operation in
-    (received.Accepted, rewritten words (after_arrival table u (set table.last u.sender u.vector)))
+    ((Ok tt), rewritten words (after_arrival table u (set table.last u.sender u.vector)))
 
 -- A local operation: its frame's line, and the table after its arrival.
-unfoldable pub issue_result : List ℕ → List ℕ → List ℕ → Issued × (List ℕ × List ℕ)
+unfoldable pub issue_result : List ℕ → List ℕ → List ℕ → Result ℕ ℕ × (List ℕ × List ℕ)
 issue_result line words out =
     let table = table_of words in
     let u = issued_by table (local_of (issue_read (bytes_of line))) in
     let spelt = hex_line (frame_bytes u) in
-    (issued.Frame (length spelt), (rewritten words (after_arrival table u table.last), spelt ++ drop (length spelt) out))
+    (Ok (length spelt), (rewritten words (after_arrival table u table.last), spelt ++ drop (length spelt) out))
 
 -- A settling call: its steps, and the table with the rows that they leave.
-unfoldable pub settle_result : List ℕ → List ℕ → Settled × List ℕ
+unfoldable pub settle_result : List ℕ → List ℕ → Result RowCount ℕ × List ℕ
 settle_result line words =
     let table = table_of words in
     let limit = (settling_read (bytes_of line)).limit in
-    (settled.Steps (record { 0 = steps table limit }), rewritten words (with_rows table (rows_settled table limit)))
+    (Ok (record { 0 = steps table limit }), rewritten words (with_rows table (rows_settled table limit)))
 
 -- A question: its answer from the table's rows and totals.
-unfoldable pub ask_result : List ℕ → List ℕ → List ℕ → Reply × List ℕ
+unfoldable pub ask_result : List ℕ → List ℕ → List ℕ → Told × List ℕ
 ask_result line words out =
     let read = question_read (bytes_of line) in
     replied (answered (answer_from (by_rows (table_of words)) (asked_from read.object read.question read.value))) out
 
 -- Saving: the form's line at the place, or the end behind its last.
-unfoldable pub save_result : List ℕ → ℕ → List ℕ → Saved × List ℕ
+unfoldable pub save_result : List ℕ → ℕ → List ℕ → Result (Option ℕ) ℕ × List ℕ
 save_result words place out =
     let form = saved_form (table_of words) in
     let spelt = hex_line (get_or form place []) in
-    cond (ltb place (length form)) (saved.Line (length spelt), spelt ++ drop (length spelt) out) (saved.End, out)
+    cond (ltb place (length form)) (Ok (Some (length spelt)), spelt ++ drop (length spelt) out) ((Ok None), out)

@@ -1,4 +1,7 @@
 -- Lines given to the station program one after the other over one space: the space after them, and the operations that were accepted.
+use Rattle.question.specs.Told as reply
+use Rattle.question.specs.Told.{Told}
+use Rattle.std.specs.Prelude.{Result, Ok, Err, Option, Some, None}
 use Rattle.std.specs.Prelude.{◌≡◌, ◌≢◌, Bool, true, false, cond, List, [], ◌∷◌, ◌++◌, ℕ, eqb, length, take}
 use Rattle.meaning.specs.Operations as meant
 use Rattle.meaning.specs.Table.{Header, most_rows, zeros}
@@ -6,27 +9,19 @@ use Rattle.meaning.specs.Refusals.{issued_by}
 use Rattle.meaning.specs.Calls as meaning
 use Rattle.words_layout.specs.Layout.{holds_table, table_of}
 use Rattle.refusal_kind.specs.Asking.{asked_from}
-use Rattle.question.specs.declared.Reply.{Reply}
-use Rattle.question.specs.declared.Reply.TheVariants as reply
 use Rattle.line_hex.specs.Choice.{pick}
 use Rattle.line_hex.specs.Hex.{figure_zero, hex_line}
 use Rattle.line_read.specs.Types.{count, flag, issue, line_of, opening, operation, printing, question, settling, sum, longest_frame}
-use Rattle.line_read.specs.Named.{issue_read, operation_read, question_read}
+use Rattle.line_read.specs.Named.{is_question, issue_read, operation_read, question_read}
 use Rattle.line_decode.specs.Decoding.{bytes_of, type_of}
 use Rattle.line_decode.specs.LineKinds.{kind_of}
 use Rattle.line_decode.specs.declared.LineKind.{LineKind}
 use Rattle.line_decode.specs.declared.LineKind.TheVariants as kind
 use Rattle.call_question.specs.AnswerBytes.{list_bytes, refusal_bytes, reply_bytes}
-use Rattle.call_checked.specs.declared.Issued.{Issued}
-use Rattle.call_checked.specs.declared.Issued.TheVariants as issued
 use Rattle.call_checked.specs.Called.{frame_of, local_of, opened_by}
 use Rattle.call_answer.specs.Answering.{changing, done_bytes, outcome_bytes, second_opening, settled_bytes}
 use Rattle.form_write.specs.Forms.{saved_form}
-use Rattle.form_save.specs.declared.Saved.{Saved}
-use Rattle.form_save.specs.declared.Saved.TheVariants as saved
 use Rattle.form_save.specs.Saving.{saved_by}
-use Rattle.call_answer.specs.declared.Answered.{Answered}
-use Rattle.call_answer.specs.declared.Answered.TheVariants as answered
 use Rattle.calls.specs.Answers.{answer_of, answered_by, lines_for, longest_answer}
 use Rattle.call_answer.specs.OutputLines.{printed_at}
 use Rattle.calls.specs.Calls as calls
@@ -76,7 +71,7 @@ pub record OpenedBy (line before words : List ℕ) : Type 0 where
 unfoldable pub meant_answer : Header → List meant.Operation → List ℕ → List ℕ
 meant_answer header operations line =
     let asked = question_read (bytes_of line) in
-    pick asked.ok
+    pick (is_question (bytes_of line))
     (reply_bytes (meaning.meant header operations most_rows (asked_from asked.object asked.question asked.value)))
     (refusal_bytes 1)
 
@@ -99,12 +94,12 @@ calls_of_all [] = []
 calls_of_all (line ∷ rest) = calls_of line ++ calls_of_all rest
 
 -- What a call answered, as the program tells it. "issue the `20` frame": the two characters of `00`, and the line that stands in the frame space.
-unfoldable pub issued_answer : Issued × (List ℕ × List ℕ) → List ℕ × List ℕ
-issued_answer (issued.Refused number, (words, out)) = (hex_line (refusal_bytes number), words)
-issued_answer (issued.Frame characters, (words, out)) = (figure_zero ∷ figure_zero ∷ take characters out, words)
+unfoldable pub issued_answer : Result ℕ ℕ × (List ℕ × List ℕ) → List ℕ × List ℕ
+issued_answer (Err number, (words, out)) = (hex_line (refusal_bytes number), words)
+issued_answer (Ok characters, (words, out)) = (figure_zero ∷ figure_zero ∷ take characters out, words)
 
 -- "count 2 bytes; total 8; flag and holds 1; list a 2-byte count, then the different values ascending", which stand in the list space.
-unfoldable pub replied_answer : Reply × List ℕ → List ℕ
+unfoldable pub replied_answer : Told × List ℕ → List ℕ
 replied_answer (reply.Refused number, out) = refusal_bytes number
 replied_answer (reply.TooLong needed, out) = refusal_bytes 11
 replied_answer (reply.Total high low, out) = line_of sum (high ∷ low ∷ []) []
@@ -114,10 +109,10 @@ replied_answer (reply.Count number, out) = line_of count (number.0 ∷ []) []
 replied_answer (reply.Holds there, out) = line_of flag (cond there 1 0 ∷ []) []
 
 -- "`60` prints the saved lines only": the line that saving gives at a place, or the end; a refusal is one line.
-unfoldable pub saved_answer : List ℕ → ℕ → Saved × List ℕ → Answered × (List ℕ × List ℕ)
-saved_answer words place (saved.Refused number, out) = let told = printed_at (refusal_bytes number ∷ []) place out in (told.0, (words, told.1))
-saved_answer words place (saved.Line characters, out) = (answered.Line characters, (words, out))
-saved_answer words place (saved.End, out) = (answered.End, (words, out))
+unfoldable pub saved_answer : List ℕ → ℕ → Result (Option ℕ) ℕ × List ℕ → Option ℕ × (List ℕ × List ℕ)
+saved_answer words place (Err number, out) = let told = printed_at (refusal_bytes number ∷ []) place out in (told.0, (words, told.1))
+saved_answer words place (Ok (Some characters), out) = (Some characters, (words, out))
+saved_answer words place ((Ok None), out) = (None, (words, out))
 
 -- The answer to a line of each type is what the call of that type answers: on any space, with room for every frame, every list and every line of a form.
 pub record ByType (line words : List ℕ) : Type 0 where

@@ -1,4 +1,5 @@
 -- Calls one after the other over one space, and the events that they are in the meaning.
+use Rattle.line_read.specs.Named.{is_operation, is_issue, is_settling}
 use Rattle.std.specs.Prelude.{Bool, ◌&&◌, List, [], ◌∷◌, ◌++◌, ℕ, leb, length}
 use Rattle.meaning.specs.Refusals.{issued_by}
 use Rattle.meaning.specs.History as history
@@ -36,11 +37,11 @@ frame_fits line words out =
 -- What a call is in the meaning: none where its line is misshapen (1), or a frame would have no room (10).
 unfoldable pub events_of : Call → List ℕ → List Event
 events_of (receives line) words =
-    pick (operation_read (bytes_of line)).ok (history.receives (frame_of (operation_read (bytes_of line))) ∷ []) []
+    pick (is_operation (bytes_of line)) (history.receives (frame_of (operation_read (bytes_of line))) ∷ []) []
 events_of (issues line out) words =
-    pick ((issue_read (bytes_of line)).ok && frame_fits line words out) (history.issues (local_of (issue_read (bytes_of line))) ∷ []) []
+    pick ((is_issue (bytes_of line)) && frame_fits line words out) (history.issues (local_of (issue_read (bytes_of line))) ∷ []) []
 events_of (settles line) words =
-    pick (settling_read (bytes_of line)).ok (history.settles (settling_read (bytes_of line)).limit ∷ []) []
+    pick (is_settling (bytes_of line)) (history.settles (settling_read (bytes_of line)).limit ∷ []) []
 
 unfoldable pub events_of_all : List Call → List ℕ → List Event
 events_of_all [] words = []
