@@ -1,4 +1,7 @@
 -- An issued frame behind `00`.
+use Rattle.std.proofs.Common.{Result, Ok, Err}
+use Rattle.line_put.specs.declared.TooShort.{TooShort}
+use Rattle.line_read.specs.Named.{is_issue}
 use mathlib.Core.Path.{◌≡◌, refl, sym, ap, ◌∙◌, subst}
 use mathlib.Core.Bool.{Bool, true, false, cond}
 use mathlib.Core.List.{List, [], ◌∷◌, ◌++◌, append-nil}
@@ -24,8 +27,6 @@ use Rattle.line_hex.specs.Putting.{digits_at, put_at}
 use Rattle.line_shape.specs.Shapes.{length_of, written}
 use Rattle.line_shape.proofs.Spelling.{length_written}
 use Rattle.line_put.specs.Writing.{line_bytes, line_written, written_each}
-use Rattle.line_put.specs.declared.Written.{Written}
-use Rattle.line_put.specs.declared.Written.TheVariants as written_as
 use Rattle.line_put.proofs.Laying.{length_written_each}
 use Rattle.line_put.proofs.Whole.{length_hex_line}
 use Rattle.line_read.specs.Types.{refused, operation, head_of, longest_frame}
@@ -34,8 +35,6 @@ use Rattle.line_print.specs.Printed.{printed}
 use Rattle.line_decode.specs.Decoding.{bytes_of}
 use Rattle.call_question.specs.AnswerBytes.{refusal_bytes, longest_answer_bytes}
 use Rattle.call_question.proofs.Short.{refusal_long}
-use Rattle.call_checked.specs.declared.Issued.{Issued}
-use Rattle.call_checked.specs.declared.Issued.TheVariants as issued
 use Rattle.call_checked.specs.Called.{frame_bytes, framed_as, issued_as, issued_on, local_of}
 use Rattle.call_answer.specs.Answering.{issue_answer, issued_bytes, answered_after, frame_room}
 
@@ -63,9 +62,9 @@ pub frame_room_lem : (words : List ℕ) → Checked words → (local : Local) �
 frame_room_lem words K local = frame_few (issued_by (table_of words) local) (next_few words K local)
 
 -- what the call leaves against the answer's bytes and the space
-abbrev Fit : Issued × (List ℕ × List ℕ) → List ℕ × List ℕ → List ℕ → Type 0
-Fit (issued.Refused number, (x, y)) (bytes, words) room = (bytes ≡ refusal_bytes number) × ((x ≡ words) × (y ≡ room))
-Fit (issued.Frame n, (x, y)) (bytes, words) room =
+abbrev Fit : Result ℕ ℕ × (List ℕ × List ℕ) → List ℕ × List ℕ → List ℕ → Type 0
+Fit (Err number, (x, y)) (bytes, words) room = (bytes ≡ refusal_bytes number) × ((x ≡ words) × (y ≡ room))
+Fit (Ok n, (x, y)) (bytes, words) room =
     (n + 2 ≡ length (hex_line bytes)) × ((n ≤ longest_frame) × ((x ≡ words) × (48 ∷ 48 ∷ y ≡ hex_line bytes ++ drop n room)))
 
 module _ (words room : List ℕ) (long : longest_frame ≤ length room) where
@@ -86,19 +85,19 @@ module _ (words room : List ℕ) (long : longest_frame ≤ length room) where
 
   issue_fit : Checked words → (line : List ℕ) → Fit (issued_on line words room) (issue_answer line words) room
   unfolding issued_on issue_answer meaning.issue
-  issue_fit K line = by (issue_read (bytes_of line)).ok
+  issue_fit K line = by (is_issue (bytes_of line))
     where
       local : Local
       local = local_of (issue_read (bytes_of line))
 
-      by : (b : Bool) → Fit (pick b (issued_as words room (meaning.issue (table_of words) local)) (issued.Refused 1, (words, room))) (pick b (issued_bytes words (meaning.issue (table_of words) local)) (refusal_bytes 1, words)) room
+      by : (b : Bool) → Fit (pick b (issued_as words room (meaning.issue (table_of words) local)) (Err 1, (words, room))) (pick b (issued_bytes words (meaning.issue (table_of words) local)) (refusal_bytes 1, words)) room
       by true = outcome_fit (refusal_of_local (table_of words) local) (issued_by (table_of words) local) (after_arrival (table_of words) (issued_by (table_of words) local) (table_of words).last) (next_few words K local)
       by false = (refl, (refl, refl))
 
 -- the answer's length
 pub issue_short : (words : List ℕ) → Checked words → (line : List ℕ) → length (issue_answer line words).0 ≤ longest_answer_bytes
 unfolding issue_answer issued_bytes meaning.issue outcome
-issue_short words K line = by (issue_read (bytes_of line)).ok (eqb (refusal_of_local (table_of words) local) 0)
+issue_short words K line = by (is_issue (bytes_of line)) (eqb (refusal_of_local (table_of words) local) 0)
   where
     local : Local
     local = local_of (issue_read (bytes_of line))
@@ -115,7 +114,7 @@ issue_short words K line = by (issue_read (bytes_of line)).ok (eqb (refusal_of_l
     by false c = short 1
 
 -- from what the call knows
-module _ (words line out : List ℕ) (K : Checked words) (room : frame_room ≤ length out) (r : Issued) (x y : List ℕ) (e : (r, (x, y)) ≡ issued_on line words (take (length out - 2) (drop 2 out))) where
+module _ (words line out : List ℕ) (K : Checked words) (room : frame_room ≤ length out) (r : Result ℕ ℕ) (x y : List ℕ) (e : (r, (x, y)) ≡ issued_on line words (take (length out - 2) (drop 2 out))) where
   abbrev lent : List ℕ
   lent = take (length out - 2) (drop 2 out)
 
@@ -126,19 +125,19 @@ module _ (words line out : List ℕ) (K : Checked words) (room : frame_room ≤ 
   bytes = (issue_answer line words).0
 
   fit : Fit (r, (x, y)) (issue_answer line words) lent
-  fit = subst (λ (p : Issued × (List ℕ × List ℕ)). Fit p (issue_answer line words) lent) (sym e) (issue_fit words lent (rw (lent_is, length-drop 2 out) (omega arith)) K line)
+  fit = subst (λ (p : Result ℕ ℕ × (List ℕ × List ℕ)). Fit p (issue_answer line words) lent) (sym e) (issue_fit words lent (rw (lent_is, length-drop 2 out) (omega arith)) K line)
 
-  pub issue_refused : (number : ℕ) → r ≡ issued.Refused number → (w : Written) (z : List ℕ) → (w, z) ≡ printed (take 2 out ++ (y ++ drop (length out - 2) (drop 2 out))) refused (number ∷ []) [] → (w, (x, z)) ≡ answered_after out (issue_answer line words)
-  unfolding answered_after printed refusal_bytes
+  pub issue_refused : (number : ℕ) → r ≡ Err number → (w : Result ℕ TooShort) (z : List ℕ) → (w, z) ≡ line_written (take 2 out ++ (y ++ drop (length out - 2) (drop 2 out))) (refusal_bytes number) → (w, (x, z)) ≡ answered_after out (issue_answer line words)
+  unfolding answered_after
   issue_refused number h w z p =
-      let f = subst (λ (q : Issued). Fit (q, (x, y)) (issue_answer line words) lent) h fit in
+      let f = subst (λ (q : Result ℕ ℕ). Fit (q, (x, y)) (issue_answer line words) lent) h fit in
       let same : take 2 out ++ (y ++ drop (length out - 2) (drop 2 out)) ≡ out = rw (f.1.1, take-append-drop (length out - 2) (drop 2 out)) (take-append-drop 2 out) in
-      let told : ◌≡◌ {A = Written × List ℕ} (w, z) (line_written out bytes) = p ∙ rw (same, f.0) refl in
-      ap (λ (q : Written × List ℕ). (q.0, (x, q.1))) told ∙ ap (λ (l : List ℕ). ((line_written out bytes).0, (l, (line_written out bytes).1))) f.1.0
+      let told : ◌≡◌ {A = Result ℕ TooShort × List ℕ} (w, z) (line_written out bytes) = p ∙ rw (same, f.0) refl in
+      ap (λ (q : Result ℕ TooShort × List ℕ). (q.0, (x, q.1))) told ∙ ap (λ (l : List ℕ). ((line_written out bytes).0, (l, (line_written out bytes).1))) f.1.0
 
-  module _ (n : ℕ) (h : r ≡ issued.Frame n) (p : ℕ) (z : List ℕ) (g : (p, z) ≡ put_at (take 2 out ++ (y ++ drop (length out - 2) (drop 2 out))) 0 (big_endian 1 0)) where
-    framed : Fit (issued.Frame n, (x, y)) (issue_answer line words) lent
-    framed = subst (λ (q : Issued). Fit (q, (x, y)) (issue_answer line words) lent) h fit
+  module _ (n : ℕ) (h : r ≡ Ok n) (p : ℕ) (z : List ℕ) (g : (p, z) ≡ put_at (take 2 out ++ (y ++ drop (length out - 2) (drop 2 out))) 0 (big_endian 1 0)) where
+    framed : Fit (Ok n, (x, y)) (issue_answer line words) lent
+    framed = subst (λ (q : Result ℕ ℕ). Fit (q, (x, y)) (issue_answer line words) lent) h fit
 
     two : p ≡ 2
     unfolding put_at big_endian
@@ -154,7 +153,7 @@ module _ (words line out : List ℕ) (K : Checked words) (room : frame_room ≤ 
         let whole : drop 2 (take 2 out ++ (y ++ drop (length out - 2) (drop 2 out))) ≡ y = drop_at (take 2 out) (y ++ drop (length out - 2) (drop 2 out)) 2 (length-take-le 2 out (omega arith)) ∙ rw none (append-nil y) in
         ap (λ (q : ℕ × List ℕ). q.1) g ∙ ap (λ (l : List ℕ). 48 ∷ 48 ∷ l) whole
 
-    pub issue_framed : (written_as.Characters (p + n), (x, z)) ≡ answered_after out (issue_answer line words)
+    pub issue_framed : (Ok (p + n), (x, z)) ≡ answered_after out (issue_answer line words)
     unfolding answered_after line_written
     issue_framed =
         let size : p + n ≡ length (hex_line bytes) = omega (arith, two, framed.0) in

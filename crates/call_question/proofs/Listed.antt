@@ -18,7 +18,8 @@ use Rattle.line_shape.specs.Shapes.{length_of, written}
 use Rattle.line_read.specs.Types.{count, head_of}
 use Rattle.line_read.proofs.Known.{known}
 use Rattle.line_put.specs.Writing.{line_bytes, line_written, Writable, written_each}
-use Rattle.line_put.specs.declared.Written.TheVariants.{Characters, TooShort}
+use Rattle.std.proofs.Common.{Ok, Err}
+use Rattle.line_put.specs.Writing.{too_short}
 use Rattle.line_put.proofs.Whole.{write_short, write_room, write_end, write_done}
 use Rattle.call_question.specs.AnswerBytes.{list_bytes}
 use Rattle.call_question.proofs.Values.{listed}
@@ -63,7 +64,7 @@ module _ (s : List ℕ) (K : Checked s) (o k : ℕ) (e : k ≡ (by_rows (table_o
   unfolding length_of
   head_long = refl
 
-  pub list_short : length space ≤ 2 * (3 + 4 * w) → (TooShort, space) ≡ line_written space (list_bytes values)
+  pub list_short : length space ≤ 2 * (3 + 4 * w) → (Err too_short, space) ≡ line_written space (list_bytes values)
   list_short h = write_short space widths fields 4 values writable 3 head_long (omega (arith, counted)) ∙ ap (line_written space) whole
 
   module _ (more : 2 * (3 + 4 * w) < length space) where
@@ -78,5 +79,5 @@ module _ (s : List ℕ) (K : Checked s) (o k : ℕ) (e : k ≡ (by_rows (table_o
         pub list_end : length second ≡ length first → end < length second
         list_end l = write_end space widths fields 4 values writable 3 head_long (omega (arith, counted)) at first p end second q (omega (arith, counted)) l
 
-        pub list_done : (size : ℕ) (third : List ℕ) → (size, third) ≡ end_at second end → (Characters size, third) ≡ line_written space (list_bytes values)
+        pub list_done : (size : ℕ) (third : List ℕ) → (size, third) ≡ end_at second end → (Ok size, third) ≡ line_written space (list_bytes values)
         list_done size third r = write_done space widths fields 4 values writable 3 head_long (omega (arith, counted)) at first p end second q (omega (arith, counted)) size third r ∙ ap (line_written space) whole

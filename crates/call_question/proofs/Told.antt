@@ -18,19 +18,20 @@ use Rattle.words_layout.specs.Layout.{table_of}
 use Rattle.words_tags.specs.declared.RowCount.{RowCount}
 use Rattle.refusal_kind.specs.Asking.{asked_from}
 use Rattle.table_rules.specs.Checked.{Checked}
-use Rattle.question.specs.declared.Reply as code
-use Rattle.question.specs.declared.Reply.TheVariants as says
+use Rattle.question.specs.Told.{Told}
+use Rattle.question.specs.Told as says
 use Rattle.question.specs.Replies.{replied}
 use Rattle.line_read.specs.Types.{count, flag, line_of, refused, sum}
 use Rattle.line_print.specs.Printed.{printed}
 use Rattle.line_put.specs.Writing.{line_written}
-use Rattle.line_put.specs.declared.Written.{Written}
+use Rattle.std.proofs.Common.{Result}
+use Rattle.line_put.specs.declared.TooShort.{TooShort}
 use Rattle.call_question.specs.AnswerBytes.{list_bytes, refusal_bytes, reply_bytes}
 use Rattle.call_question.proofs.Values.{listed}
 use Rattle.call_question.proofs.Listed.{values_few}
 
 -- the line of a reply, where the list is known
-unfoldable told_bytes : code.Reply → List ℕ → List ℕ
+unfoldable told_bytes : Told → List ℕ → List ℕ
 told_bytes (says.Refused number) values = refusal_bytes number
 told_bytes (says.TooLong needed) values = list_bytes values
 told_bytes (says.Total high low) values = line_of sum (high ∷ low ∷ []) []
@@ -40,7 +41,7 @@ told_bytes (says.Count number) values = line_of count (number.0 ∷ []) []
 told_bytes (says.Holds there) values = line_of flag (cond there 1 0 ∷ []) []
 
 -- the count that comes with a list, or with 11
-unfoldable count_told : code.Reply → ℕ → ℕ
+unfoldable count_told : Told → ℕ → ℕ
 count_told (says.Refused number) other = other
 count_told (says.TooLong needed) other = needed.0
 count_told (says.Total high low) other = other
@@ -134,22 +135,22 @@ module _ (s : List ℕ) (K : Checked s) (object asking value : ℕ) where
   unfolding ask ask_of question_refusals asked_refusals by_rows count_by_rows
   count_told_lem = chain_count (by_rows t) asked (not (well_asked asked)) (not (declared t.header object)) (not (fits asking (kind_in t.header object))) (long 0)
 
-  module _ (lent : List ℕ) (n : lent ≡ []) (r : code.Reply) (x : List ℕ) (e : (r, x) ≡ replied (ask t (length lent) asked) lent) where
+  module _ (lent : List ℕ) (n : lent ≡ []) (r : Told) (x : List ℕ) (e : (r, x) ≡ replied (ask t (length lent) asked) lent) where
     reply_is : r ≡ (replied (ask t 0 asked) []).0
-    reply_is = ap (λ (p : code.Reply × List ℕ). p.0) e ∙ ap (λ (l : List ℕ). (replied (ask t (length l) asked) l).0) n
+    reply_is = ap (λ (p : Told × List ℕ). p.0) e ∙ ap (λ (l : List ℕ). (replied (ask t (length l) asked) l).0) n
 
     pub too_long_counted : (k : RowCount) → r ≡ says.TooLong k → k.0 ≡ (by_rows t).count_at object
     unfolding count_told
-    too_long_counted k h = ap (λ (q : code.Reply). count_told q ((by_rows t).count_at object)) (sym h ∙ reply_is) ∙ count_told_lem
+    too_long_counted k h = ap (λ (q : Told). count_told q ((by_rows t).count_at object)) (sym h ∙ reply_is) ∙ count_told_lem
 
     pub list_counted : (k : RowCount) → r ≡ says.List k → k.0 ≡ (by_rows t).count_at object
     unfolding count_told
-    list_counted k h = ap (λ (q : code.Reply). count_told q ((by_rows t).count_at object)) (sym h ∙ reply_is) ∙ count_told_lem
+    list_counted k h = ap (λ (q : Told). count_told q ((by_rows t).count_at object)) (sym h ∙ reply_is) ∙ count_told_lem
 
-    bytes_are : (q : code.Reply) → r ≡ q → told_bytes q (listed s object) ≡ reply_bytes (ask t most_rows asked)
-    bytes_are q h = ap (λ (q : code.Reply). told_bytes q (listed s object)) (sym h ∙ reply_is) ∙ bytes_told
+    bytes_are : (q : Told) → r ≡ q → told_bytes q (listed s object) ≡ reply_bytes (ask t most_rows asked)
+    bytes_are q h = ap (λ (q : Told). told_bytes q (listed s object)) (sym h ∙ reply_is) ∙ bytes_told
 
-    module _ (out : List ℕ) (w : Written) (y : List ℕ) where
+    module _ (out : List ℕ) (w : Result ℕ TooShort) (y : List ℕ) where
       pub refused_told : (number : ℕ) → r ≡ says.Refused number → (w, y) ≡ printed out refused (number ∷ []) [] → (w, y) ≡ line_written out (reply_bytes (ask t most_rows asked))
       unfolding told_bytes printed refusal_bytes
       refused_told number h p = p ∙ ap (line_written out) (bytes_are (says.Refused number) h)

@@ -12,9 +12,9 @@ ghost use Rattle.line_hex.specs.Putting.{put_at};
 ghost use Rattle.line_put.specs.Writing.{line_written, written_each};
 ghost use Rattle.call_question.specs.AnswerBytes.{list_bytes, reply_bytes};
 
-use line_put::Written;
+use line_put::TooShort;
 use line_shape::FOUR;
-use question::Reply;
+use question::{Reply, Unanswered};
 use words_tags::{RowCount, Value};
 
 // How many bytes stand before the values of a list: the type and the count.
@@ -27,10 +27,7 @@ const CHARACTERS: usize = 2;
 fn byte_of(yes: bool) -> u32
     ensures { result ≡ cond yes 1 0 }
 {
-    if yes {
-        return 1;
-    }
-    0
+    u32::from(yes)
 }
 
 // Writes the values of an object, which were counted before, as digits at a place; the place behind them.
@@ -40,29 +37,27 @@ fn put_values(s: &[u32], object: u32, count: RowCount, out: &mut [u8], at: usize
 {
     let mut passed = 0;
     let mut to = at;
-    let mut left = count.0;
-    while 0 < left {
+    for _i in 0..count.0 {
         let found = question_list::next_value(s, object, RowCount(passed));
         to = line_hex::put_number(out, to, found.value.0, FOUR);
         passed = found.passed.0;
-        left -= 1;
     }
     to
 }
 
 // Writes the line of a list: `00`, the count, and the values, which were counted before.
-fn write_list(s: &[u32], object: u32, count: RowCount, out: &mut [u8]) -> Written
+fn write_list(s: &[u32], object: u32, count: RowCount, out: &mut [u8]) -> Result<usize, TooShort>
     requires { Checked s.now × (count.0 ≡ (by_rows (table_of s.now)).count_at object) }
     ensures { (result, out.new) ≡ line_written out.old (list_bytes ((by_rows (table_of s.now)).list_at object)) }
 {
     let size = HEAD + FOUR * words_tags::wide(count.0);
     if out.len() <= CHARACTERS * size {
-        return Written::TooShort;
+        return Err(TooShort);
     }
     let fields = [line_read::DONE as u32, count.0];
     let at = line_put::put_fields(out, 0, &line_read::TWO_BYTE_WIDTHS, &fields);
     let end = put_values(s, object, count, out, at);
-    Written::Characters(line_hex::put_lf(out, end))
+    Ok(line_hex::put_lf(out, end))
 }
 
 // Writes the answer to a question. It is asked with no room for a list: 11 then brings the count with which the list is written.
@@ -72,18 +67,18 @@ pub fn answer_question(
     question: u32,
     value: Value,
     out: &mut [u8],
-) -> Written
+) -> Result<usize, TooShort>
     requires { Checked s.now }
     ensures { (result, out.new) ≡ line_written out.old (reply_bytes (ask (table_of s.now) most_rows (asked_from object question value.0))) }
 {
     let mut none = [0u32; 1];
     match question::ask_table(s, object, question, value, &mut none[0..0]) {
-        Reply::Refused(number) => line_print::write_refusal(out, number),
-        Reply::TooLong(count) => write_list(s, object, count, out),
-        Reply::Total(high, low) => line_print::write_sum(out, high, low),
-        Reply::Flag(on) => line_print::write_flag(out, byte_of(on)),
-        Reply::List(count) => write_list(s, object, count, out),
-        Reply::Count(number) => line_print::write_count(out, number.0),
-        Reply::Holds(there) => line_print::write_flag(out, byte_of(there)),
+        Ok(Reply::Total(high, low)) => line_print::write_sum(out, high, low),
+        Ok(Reply::Flag(on)) => line_print::write_flag(out, byte_of(on)),
+        Ok(Reply::List(count)) => write_list(s, object, count, out),
+        Ok(Reply::Count(number)) => line_print::write_count(out, number.0),
+        Ok(Reply::Holds(there)) => line_print::write_flag(out, byte_of(there)),
+        Err(Unanswered::Refused(refusal)) => line_print::write_refusal(out, refusal.number()),
+        Err(Unanswered::TooLong(count)) => write_list(s, object, count, out),
     }
 }

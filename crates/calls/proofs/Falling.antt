@@ -1,4 +1,7 @@
 -- The steps that a settling call reports are the fall in unsettled rows.
+use Rattle.std.proofs.Common.{Result, Err}
+use Rattle.words_tags.specs.declared.RowCount.{RowCount}
+use Rattle.line_read.specs.Named.{is_settling}
 use mathlib.Core.Path.{◌≡◌, refl, sym, ap, ◌∙◌, subst}
 use mathlib.Core.Bool.{Bool, true, false}
 use mathlib.Core.List.{List}
@@ -18,8 +21,6 @@ use Rattle.arrival.proofs.Kept.{table_back}
 use Rattle.line_hex.specs.Choice.{pick}
 use Rattle.line_read.specs.Named.{settling_read}
 use Rattle.line_decode.specs.Decoding.{bytes_of}
-use Rattle.call_checked.specs.declared.Settled.{Settled}
-use Rattle.call_checked.specs.declared.Settled.TheVariants as settled
 use Rattle.call_checked.specs.Called.{settled_as, settled_on}
 use Rattle.line_decode.proofs.Decoding.{decoded_bytes}
 use Rattle.call_checked.proofs.Settling.{limit_read}
@@ -27,7 +28,7 @@ use Rattle.calls.specs.Calls.{Fallen, settled_by}
 use Rattle.calls.proofs.Tested.{settle_table, settle_no_table}
 
 -- what an answer and the words after it say of the words before
-abbrev Falls : List ℕ → Settled × List ℕ → Type 0
+abbrev Falls : List ℕ → Result RowCount ℕ × List ℕ → Type 0
 Falls words answer = Fallen answer.0 words answer.1
 
 module _ (words : List ℕ) where
@@ -38,12 +39,12 @@ module _ (words : List ℕ) where
 
   on_falls : Checked words → (line : List ℕ) → Falls words (settled_on line words)
   unfolding settled_on Fallen
-  on_falls K line = by (settling_read (bytes_of line)).ok
+  on_falls K line = by (is_settling (bytes_of line))
     where
       limit : ℕ
       limit = (settling_read (bytes_of line)).limit
 
-      by : (b : Bool) → Falls words (pick b (settled_as words (meaning.settle (table_of words) limit)) (settled.Refused 1, words))
+      by : (b : Bool) → Falls words (pick b (settled_as words (meaning.settle (table_of words) limit)) (Err 1, words))
       by true = taken_falls K limit (limit_read (bytes_of line) (decoded_bytes line))
       by false = refl
 
@@ -51,17 +52,17 @@ module _ (words : List ℕ) where
   unfolding settled_by Fallen
   by_falls line = by (holds_table words) (λ h. on_falls (checked words h) line)
     where
-      by : (b : Bool) → (b ≡ true → Falls words (settled_on line words)) → Falls words (pick b (settled_on line words) (settled.Refused 14, words))
+      by : (b : Bool) → (b ≡ true → Falls words (settled_on line words)) → Falls words (pick b (settled_on line words) (Err 14, words))
       by true f = f refl
       by false f = refl
 
-settle_falls : (line words : List ℕ) (r : Settled) (x : List ℕ) → (r, x) ≡ settled_by line words → Fallen r words x
+settle_falls : (line words : List ℕ) (r : Result RowCount ℕ) (x : List ℕ) → (r, x) ≡ settled_by line words → Fallen r words x
 settle_falls line words r x e = subst (Falls words) (sym e) (by_falls words line)
 
 -- from what the call knows
 module _ (line words : List ℕ) (b : Bool) (e : b ≡ holds_table words) where
-  pub table_falls : b ≡ true → (r : Settled) (x : List ℕ) → (r, x) ≡ settled_on line words → Fallen r words x
+  pub table_falls : b ≡ true → (r : Result RowCount ℕ) (x : List ℕ) → (r, x) ≡ settled_on line words → Fallen r words x
   table_falls t r x f = settle_falls line words r x (settle_table line words b e t r x f)
 
-  pub no_table_falls : b ≡ false → Fallen (settled.Refused 14) words words
-  no_table_falls f = settle_falls line words (settled.Refused 14) words (settle_no_table line words b e f)
+  pub no_table_falls : b ≡ false → Fallen (Err 14) words words
+  no_table_falls f = settle_falls line words (Err 14) words (settle_no_table line words b e f)

@@ -1,4 +1,8 @@
 -- The one test of a space, and what it lets through.
+use Rattle.question.specs.Told as reply
+use Rattle.question.specs.Told.{Told}
+use Rattle.std.proofs.Common.{Result, Err}
+use Rattle.words_tags.specs.declared.RowCount.{RowCount}
 use mathlib.Core.Path.{◌≡◌, refl, sym, ◌∙◌}
 use mathlib.Core.Bool.{Bool, true, false}
 use mathlib.Core.List.{List}
@@ -6,14 +10,6 @@ use Prim.Native.Nat.{ℕ}
 use Rattle.words_layout.specs.Layout.{holds_table}
 use Rattle.table_rules.specs.Checked.{Checked}
 use Rattle.table_rules.proofs.Checking.{checked}
-use Rattle.question.specs.declared.Reply.{Reply}
-use Rattle.question.specs.declared.Reply.TheVariants as reply
-use Rattle.call_checked.specs.declared.Issued.{Issued}
-use Rattle.call_checked.specs.declared.Issued.TheVariants as issued
-use Rattle.call_checked.specs.declared.Received.{Received}
-use Rattle.call_checked.specs.declared.Received.TheVariants as received
-use Rattle.call_checked.specs.declared.Settled.{Settled}
-use Rattle.call_checked.specs.declared.Settled.TheVariants as settled
 use Rattle.call_checked.specs.Called.{issued_on, received_on, replied_on, settled_on}
 use Rattle.calls.specs.Calls.{issued_by, received_by, replied_by, settled_by}
 
@@ -23,31 +19,31 @@ found s r e t = checked s (sym e ∙ t)
 
 -- 14, or the frame to a table
 module _ (line words : List ℕ) (b : Bool) (e : b ≡ holds_table words) where
-  pub receive_no_table : b ≡ false → (received.Refused 14, words) ≡ received_by line words
+  pub receive_no_table : b ≡ false → (Err 14, words) ≡ received_by line words
   unfolding received_by
   receive_no_table f = rw (sym e ∙ f) refl
 
-  pub receive_table : b ≡ true → (r : Received) (x : List ℕ) → (r, x) ≡ received_on line words → (r, x) ≡ received_by line words
+  pub receive_table : b ≡ true → (r : Result (Unit {0}) ℕ) (x : List ℕ) → (r, x) ≡ received_on line words → (r, x) ≡ received_by line words
   unfolding received_by
   receive_table t r x f = rw (sym e ∙ t) f
 
 -- 14, or the operation to a table
 module _ (line words out : List ℕ) (b : Bool) (e : b ≡ holds_table words) where
-  pub issue_no_table : b ≡ false → (issued.Refused 14, (words, out)) ≡ issued_by line words out
+  pub issue_no_table : b ≡ false → (Err 14, (words, out)) ≡ issued_by line words out
   unfolding issued_by
   issue_no_table f = rw (sym e ∙ f) refl
 
-  pub issue_table : b ≡ true → (r : Issued) (x y : List ℕ) → (r, (x, y)) ≡ issued_on line words out → (r, (x, y)) ≡ issued_by line words out
+  pub issue_table : b ≡ true → (r : Result ℕ ℕ) (x y : List ℕ) → (r, (x, y)) ≡ issued_on line words out → (r, (x, y)) ≡ issued_by line words out
   unfolding issued_by
   issue_table t r x y f = rw (sym e ∙ t) f
 
 -- 14, or the call on a table
 module _ (line words : List ℕ) (b : Bool) (e : b ≡ holds_table words) where
-  pub settle_no_table : b ≡ false → (settled.Refused 14, words) ≡ settled_by line words
+  pub settle_no_table : b ≡ false → (Err 14, words) ≡ settled_by line words
   unfolding settled_by
   settle_no_table f = rw (sym e ∙ f) refl
 
-  pub settle_table : b ≡ true → (r : Settled) (x : List ℕ) → (r, x) ≡ settled_on line words → (r, x) ≡ settled_by line words
+  pub settle_table : b ≡ true → (r : Result RowCount ℕ) (x : List ℕ) → (r, x) ≡ settled_on line words → (r, x) ≡ settled_by line words
   unfolding settled_by
   settle_table t r x f = rw (sym e ∙ t) f
 
@@ -57,6 +53,6 @@ module _ (line words out : List ℕ) (b : Bool) (e : b ≡ holds_table words) wh
   unfolding replied_by
   ask_no_table f = rw (sym e ∙ f) refl
 
-  pub ask_table : b ≡ true → (r : Reply) (x : List ℕ) → (r, x) ≡ replied_on line words out → (r, x) ≡ replied_by line words out
+  pub ask_table : b ≡ true → (r : Told) (x : List ℕ) → (r, x) ≡ replied_on line words out → (r, x) ≡ replied_by line words out
   unfolding replied_by
   ask_table t r x f = rw (sym e ∙ t) f

@@ -1,4 +1,5 @@
 -- What the station program prints for a line.
+use Rattle.std.specs.Prelude.{Option}
 use Rattle.std.specs.Prelude.{◌&&◌, List, [], ◌∷◌, ℕ, eqb}
 use Rattle.words_layout.specs.Layout.{holds_table, table_of}
 use Rattle.line_hex.specs.Choice.{pick}
@@ -11,13 +12,12 @@ use Rattle.line_decode.specs.declared.LineKind.TheVariants as kind
 use Rattle.form_write.specs.Forms.{saved_form}
 use Rattle.call_question.specs.AnswerBytes.{refusal_bytes, longest_answer_bytes}
 use Rattle.call_checked.specs.Called.{opened_by}
-use Rattle.call_answer.specs.Answering.{answer_on, changing, opened_bytes}
+use Rattle.call_answer.specs.Answering.{answer_on, changing, outcome_bytes}
 use Rattle.call_answer.specs.OutputLines.{printed_at}
-use Rattle.call_answer.specs.declared.Answered.{Answered}
 
 -- "A line before an accepted opening gets `ff0e`, unless it is itself of type `10`": the bytes of the answer, and the space afterwards.
 unfoldable pub first_answer : LineKind → List ℕ → List ℕ → List ℕ × List ℕ
-first_answer kind.Opening line words = changing opened_bytes (opened_by line words)
+first_answer kind.Opening line words = changing outcome_bytes (opened_by line words)
 first_answer kind.Operation line words = (refusal_bytes 14, words)
 first_answer kind.Issue line words = (refusal_bytes 14, words)
 first_answer kind.Settling line words = (refusal_bytes 14, words)
@@ -40,7 +40,7 @@ unfoldable pub space_after : List ℕ → ℕ → List ℕ → List ℕ
 space_after line k words = pick (eqb k 0) (answer_of line words).1 words
 
 -- The k-th output line for this input line, or the end.
-unfoldable pub answered_by : List ℕ → ℕ → List ℕ → List ℕ → Answered × (List ℕ × List ℕ)
+unfoldable pub answered_by : List ℕ → ℕ → List ℕ → List ℕ → Option ℕ × (List ℕ × List ℕ)
 answered_by line k words out =
     let printed = printed_at (lines_for line words) k out in
     (printed.0, (space_after line k words, printed.1))

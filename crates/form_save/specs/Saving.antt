@@ -1,25 +1,22 @@
 -- Saving: what a `60` line gets for the line of the form at a place, and the line space afterwards.
-use Rattle.std.specs.Prelude.{List, ℕ}
+use Rattle.std.specs.Prelude.{List, ℕ, Option, Some, None, Result, Ok, Err}
 use Rattle.words_layout.specs.Layout.{holds_table, table_of}
 use Rattle.line_hex.specs.Choice.{pick}
 use Rattle.line_read.specs.Named.{printing_read}
 use Rattle.line_decode.specs.Decoding.{bytes_of}
 use Rattle.form_write.specs.Forms.{line_at, saved_form}
-use Rattle.form_write.specs.declared.Formed.{Formed}
-use Rattle.form_write.specs.declared.Formed.TheVariants as formed
-use Rattle.form_save.specs.declared.Saved.{Saved}
-use Rattle.form_save.specs.declared.Saved.TheVariants as saved
+use Rattle.line_put.specs.declared.TooShort.{TooShort}
 
 -- 10: "line space shorter than the line", and it stays as it was; else the line stands in it, or the form has no line at that place.
-unfoldable pub saved_as : List ℕ → Formed × List ℕ → Saved × List ℕ
-saved_as out (formed.Line length, line) = (saved.Line length, line)
-saved_as out (formed.End, line) = (saved.End, out)
-saved_as out (formed.TooShort, line) = (saved.Refused 10, out)
+unfoldable pub saved_as : List ℕ → Result (Option ℕ) TooShort × List ℕ → Result (Option ℕ) ℕ × List ℕ
+saved_as out (Ok (Some length), line) = (Ok (Some length), line)
+saved_as out (Ok None, line) = (Ok None, out)
+saved_as out (Err short, line) = (Err 10, out)
 
 -- "saving 14, 1, 10": on a table, and on any space.
-unfoldable pub saved_on : List ℕ → List ℕ → ℕ → List ℕ → Saved × List ℕ
+unfoldable pub saved_on : List ℕ → List ℕ → ℕ → List ℕ → Result (Option ℕ) ℕ × List ℕ
 saved_on line words place out =
-    pick (printing_read (bytes_of line)) (saved_as out (line_at (saved_form (table_of words)) place out)) (saved.Refused 1, out)
+    pick (printing_read (bytes_of line)) (saved_as out (line_at (saved_form (table_of words)) place out)) (Err 1, out)
 
-unfoldable pub saved_by : List ℕ → List ℕ → ℕ → List ℕ → Saved × List ℕ
-saved_by line words place out = pick (holds_table words) (saved_on line words place out) (saved.Refused 14, out)
+unfoldable pub saved_by : List ℕ → List ℕ → ℕ → List ℕ → Result (Option ℕ) ℕ × List ℕ
+saved_by line words place out = pick (holds_table words) (saved_on line words place out) (Err 14, out)

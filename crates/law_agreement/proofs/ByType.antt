@@ -1,5 +1,7 @@
 -- The station program's answer to a line of each type is what the call of that type answers.
-use Rattle.std.specs.Prelude.{Result, Ok, Err, Option, Some, None}
+use Rattle.question.specs.Told as reply
+use Rattle.std.proofs.Common.{Result, Ok, Err, Option, Some, None}
+use Rattle.line_read.specs.Named.{is_opening, is_operation, is_issue, is_settling, is_question}
 use mathlib.Core.Path.{◌≡◌, refl, sym, ap, ◌∙◌}
 use mathlib.Core.Logic.{◌≢◌}
 use mathlib.Core.Bool.{Bool, true, false, cond, false≢true}
@@ -19,7 +21,6 @@ use Rattle.meaning.specs.Calls.{after_arrival, outcome}
 use Rattle.words_layout.specs.Layout.{holds_table, rewritten, space_for, table_of}
 use Rattle.refusal_kind.specs.Asking.{asked_from}
 use Rattle.table_rules.proofs.Checking.{checked}
-use Rattle.question.specs.Told as reply
 use Rattle.question.specs.Replies.{replied}
 use Rattle.line_hex.specs.Choice.{pick}
 use Rattle.line_hex.specs.Hex.{digit_of, digits_of, hex_line}
@@ -27,10 +28,10 @@ use Rattle.line_hex.specs.Numbers.{big_endian}
 use Rattle.line_shape.specs.Shapes.{written}
 use Rattle.line_put.specs.Writing.{line_bytes, line_written}
 use Rattle.line_read.specs.Types.{issue, opening, operation, printing, question, settling, longest_frame}
-use Rattle.line_read.specs.Named.{issue_read, is_issue, opening_read, is_opening, operation_read, is_operation, printing_read, question_read, is_question, settling_read, is_settling}
+use Rattle.line_read.specs.Named.{issue_read, opening_read, operation_read, printing_read, question_read, settling_read}
 use Rattle.call_question.specs.AnswerBytes.{list_bytes, refusal_bytes, reply_bytes}
 use Rattle.call_checked.specs.Called.{frame_bytes, frame_of, framed_as, header_read, issued_as, issued_on, local_of, opened_as, opened_by, received_as, received_on, replied_on, settled_as, settled_on}
-use Rattle.call_answer.specs.Answering.{answer_on, changing, issue_answer, issued_bytes, opened_bytes, question_answer, received_bytes, second_opening, settled_bytes, frame_room}
+use Rattle.call_answer.specs.Answering.{answer_on, changing, issue_answer, issued_bytes, outcome_bytes, question_answer, second_opening, settled_bytes, frame_room}
 use Rattle.line_decode.specs.Decoding.{bytes_of, type_of}
 use Rattle.line_decode.specs.LineKinds.{kind_of}
 use Rattle.line_decode.specs.declared.LineKind.{LineKind}
@@ -43,7 +44,7 @@ use Rattle.calls.specs.Answers.{answer_of, answered_by, first_answer, lines_for,
 use Rattle.call_answer.specs.OutputLines.{printed_at}
 use Rattle.calls.specs.Calls as calls
 use Rattle.calls.specs.Calls.{received_by, replied_by, settled_by}
-use Rattle.calls.proofs.Answering.{answer_formed, first_cases, form_end, form_line, form_refused, one_line}
+use Rattle.calls.proofs.Answering.{answer_formed, first_cases, form_there, form_refused, one_line}
 use Rattle.law_agreement.specs.Conditions.{is_line_of}
 use Rattle.law_agreement.specs.Lines.{ByType, is_done, issued_answer, replied_answer, saved_answer}
 use Rattle.law_agreement.proofs.Shaping.{printing_shaped}
@@ -55,11 +56,11 @@ module _ (line words : List ℕ) where
   unfolding answer_of
   by_table k z = rw z refl
 
-  told_frame : type_of line ≡ operation.type_byte → answer_of line words ≡ changing received_bytes (received_by line words)
-  unfolding answer_on first_answer kind_of received_by received_bytes
+  told_frame : type_of line ≡ operation.type_byte → answer_of line words ≡ changing outcome_bytes (received_by line words)
+  unfolding answer_on first_answer kind_of received_by outcome_bytes
   told_frame z = by_table kind.Operation (rw z refl) ∙ by (holds_table words)
     where
-      by : (b : Bool) → pick {A = List ℕ × List ℕ} b (received_bytes (received_on line words).0, (received_on line words).1) (refusal_bytes 14, words) ≡ changing received_bytes (pick b (received_on line words) (Err 14, words))
+      by : (b : Bool) → pick {A = List ℕ × List ℕ} b (outcome_bytes (received_on line words).0, (received_on line words).1) (refusal_bytes 14, words) ≡ changing outcome_bytes (pick b (received_on line words) (Err 14, words))
       by true = refl
       by false = refl
 
@@ -71,7 +72,7 @@ module _ (line words : List ℕ) where
       by true = refl
       by false = refl
 
-  told_opening : type_of line ≡ opening.type_byte → holds_table words ≡ false → answer_of line words ≡ changing opened_bytes (opened_by line words)
+  told_opening : type_of line ≡ opening.type_byte → holds_table words ≡ false → answer_of line words ≡ changing outcome_bytes (opened_by line words)
   unfolding first_answer kind_of
   told_opening z f = by_table kind.Opening (rw z refl) ∙ rw f refl
 
@@ -172,8 +173,8 @@ module _ (line words : List ℕ) (t : type_of line ≡ printing.type_byte) where
     told_saved (Err number) h =
         let told = printed_at (refusal_bytes number ∷ []) place given.1 in
         at_place told.0 told.1 (form_refused line words out prints room place given.0 given.1 refl number h told.0 told.1 refl)
-    told_saved (Ok (Some n)) h = at_place (Some n) given.1 (form_line line words out prints room place given.0 given.1 refl n h)
-    told_saved (Ok None) h = at_place None given.1 (form_end line words out prints room place given.0 given.1 refl h)
+    told_saved (Ok (Some n)) h = at_place (Some n) given.1 (form_there line words out prints room place given.0 given.1 refl (Some n) h)
+    told_saved (Ok None) h = at_place None given.1 (form_there line words out prints room place given.0 given.1 refl None h)
 
   told_form : (place : ℕ) (out : List ℕ) → length out ≡ longest_answer → answered_by line place words out ≡ saved_answer words place (saved_by line words place out)
   told_form place out long = told_saved place out long (saved_by line words place out).0 refl
@@ -229,8 +230,8 @@ module _ (line words : List ℕ) where
   abbrev Quiet : List ℕ × List ℕ → Type 0
   Quiet (bytes, after) = is_done bytes ≡ false → after ≡ words
 
-  quiet_frame : (x : meaning.Outcome) → Quiet (changing received_bytes (received_as words x))
-  unfolding received_as received_bytes
+  quiet_frame : (x : meaning.Outcome) → Quiet (changing outcome_bytes (received_as words x))
+  unfolding received_as outcome_bytes
   quiet_frame (meaning.Outcome.refused number) f = refl
   quiet_frame (meaning.Outcome.accepted u table) f = absurd (false≢true (sym f ∙ done_is_done))
 
@@ -244,8 +245,8 @@ module _ (line words : List ℕ) where
   quiet_settling (meaning.Settled.refused number) f = refl
   quiet_settling (meaning.Settled.settled steps table) f = absurd (false≢true (sym f))
 
-  quiet_opening : (x : meaning.Opening) → Quiet (changing opened_bytes (opened_as words x))
-  unfolding opened_as opened_bytes
+  quiet_opening : (x : meaning.Opening) → Quiet (changing outcome_bytes (opened_as words x))
+  unfolding opened_as outcome_bytes
   quiet_opening (meaning.Opening.refused number) f = refl
   quiet_opening (meaning.Opening.fresh table) f = absurd (false≢true (sym f ∙ done_is_done))
 
@@ -254,7 +255,7 @@ module _ (line words : List ℕ) where
   quiet_table kind.Opening = λ _. refl
   quiet_table kind.Operation = by (is_operation (bytes_of line))
     where
-      by : (b : Bool) → Quiet (changing received_bytes (pick b (received_as words (meaning.receive (table_of words) (frame_of (operation_read (bytes_of line))))) (Err 1, words)))
+      by : (b : Bool) → Quiet (changing outcome_bytes (pick b (received_as words (meaning.receive (table_of words) (frame_of (operation_read (bytes_of line))))) (Err 1, words)))
       by true = quiet_frame (meaning.receive (table_of words) (frame_of (operation_read (bytes_of line))))
       by false = λ _. refl
   quiet_table kind.Issue = by (is_issue (bytes_of line))
@@ -272,14 +273,14 @@ module _ (line words : List ℕ) where
   quiet_table kind.Saved = λ _. refl
   quiet_table kind.Unknown = λ _. refl
 
-  quiet_opened : Quiet (changing opened_bytes (opened_by line words))
+  quiet_opened : Quiet (changing outcome_bytes (opened_by line words))
   unfolding opened_by
   quiet_opened = by (is_opening (bytes_of line))
     where
       opens : meaning.Opening
       opens = meaning.open_table (length words) (space_for (header_read (bytes_of line)).size (header_read (bytes_of line)).capacity) (header_read (bytes_of line))
 
-      by : (b : Bool) → Quiet (changing opened_bytes (pick b (opened_as words opens) (Err 1, words)))
+      by : (b : Bool) → Quiet (changing outcome_bytes (pick b (opened_as words opens) (Err 1, words)))
       by true = quiet_opening opens
       by false = λ _. refl
 

@@ -1,5 +1,9 @@
 -- Each call gives each number exactly when 01 says, in its own order and only then; a refusal changes no word and no byte.
-use Rattle.std.specs.Prelude.{Result, Err, Option}
+use Rattle.question.specs.Told as reply
+use Rattle.question.specs.Told.{Told}
+use Rattle.std.proofs.Common.{Result, Err, Option}
+use Rattle.words_tags.specs.declared.RowCount.{RowCount}
+use Rattle.line_read.specs.Named.{is_opening, is_operation, is_issue, is_settling, is_question}
 use mathlib.Core.Path.{◌≡◌, refl, sym, ap, ◌∙◌}
 use mathlib.Core.Bool.{Bool, true, false, not, ◌&&◌, ◌||◌, cond, false≢true}
 use mathlib.Core.Logic.{◌≢◌, ◌↔◌}
@@ -20,8 +24,6 @@ use Rattle.meaning.proofs.Tests.{cases}
 use Rattle.meaning.proofs.Refusals.{number_at, given_at, distinct, exact}
 use Rattle.words_layout.specs.Layout.{holds_table, table_of, size_in, space_for}
 use Rattle.refusal_kind.specs.Asking.{asked_from}
-use Rattle.question.specs.Told.{Told}
-use Rattle.question.specs.Told as reply
 use Rattle.question.specs.Replies.{number_of, replied}
 use Rattle.table_rules.specs.Checked.{Checked}
 use Rattle.table_rules.proofs.Checking.{checked}
@@ -29,12 +31,11 @@ use Rattle.line_hex.specs.Choice.{pick}
 use Rattle.line_hex.specs.Hex.{hex_line}
 use Rattle.line_put.specs.Writing.{line_written}
 use Rattle.line_read.specs.Types.{operation}
-use Rattle.line_read.specs.Named.{stations_of, issue_read, is_issue, opening_read, is_opening, operation_read, is_operation, printing_read, question_read, is_question, settling_read, is_settling}
+use Rattle.line_read.specs.Named.{stations_of, issue_read, opening_read, operation_read, printing_read, question_read, settling_read}
 use Rattle.line_decode.specs.Decoding.{bytes_of}
 use Rattle.form_write.specs.Forms.{line_at, saved_form}
 use Rattle.form_write.proofs.Lines.{line_none, line_there, line_too_short}
 use Rattle.form_save.specs.Saving.{saved_as, saved_by, saved_on}
-use Rattle.words_tags.specs.declared.RowCount.{RowCount}
 use Rattle.calls.specs.Calls as calls
 use Rattle.call_checked.specs.Called.{frame_bytes, frame_of, framed_as, header_read, issued_as, issued_on, local_of, opened_as, opened_by, received_as, received_on, replied_on, settled_as, settled_on}
 use Rattle.calls.specs.Calls.{received_by, replied_by, settled_by}

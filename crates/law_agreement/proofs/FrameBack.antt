@@ -1,5 +1,6 @@
 -- The line that `issue` writes says the operation that the table accepted, and another table that hears it hears that operation.
-use Rattle.std.specs.Prelude.{Result, Ok, Err}
+use Rattle.std.proofs.Common.{Result, Ok, Err}
+use Rattle.line_read.specs.Named.{is_operation}
 use mathlib.Core.Path.{◌≡◌, refl, sym, ap, ◌∙◌, subst}
 use mathlib.Core.Bool.{Bool, true, false, cond}
 use mathlib.Core.List.{List, ◌∷◌, ◌++◌}
@@ -23,11 +24,11 @@ use Rattle.table_rules.proofs.Checking.{checked}
 use Rattle.line_hex.specs.Hex.{hex_line}
 use Rattle.line_hex.specs.Numbers.{AllBytes}
 use Rattle.line_hex.proofs.Bytes.{all_bytes_drop}
-use Rattle.line_shape.specs.Reading.{fields_read, has_shape, padded}
+use Rattle.line_shape.specs.Reading.{fields_read, has_shape, is_shaped, padded}
 use Rattle.line_shape.specs.Shapes.{Fitting, read, length_of}
 use Rattle.line_read.specs.declared.Operation as lines
 use Rattle.line_read.specs.Types.{line_read, operation, shape_of, longest}
-use Rattle.line_read.specs.Named.{issue_read, operation_read, is_operation}
+use Rattle.line_read.specs.Named.{issue_read, operation_read}
 use Rattle.line_read.proofs.Longest.{operation_at_most_longest}
 use Rattle.line_read.proofs.Named.{operation_reads_back}
 use Rattle.line_read.proofs.Spelling.{all_bytes_line_of}
@@ -50,7 +51,7 @@ pub record Narrow (local : Local) : Type 0 where
   pub value : local.value < value_limit
 
 issue_narrow : (bytes : List ℕ) → AllBytes bytes → Narrow (local_of (issue_read bytes))
-unfolding local_of issue_read line_read fields_read read padded has_shape length_of
+unfolding local_of issue_read line_read fields_read is_shaped read padded has_shape length_of
 issue_narrow bytes h =
     let one = all_bytes_drop 1 bytes h in
     let two = all_bytes_drop 1 (drop 1 bytes) one in
@@ -81,16 +82,16 @@ module _ (words : List ℕ) (K : Checked words) (local : Local) (ok : refusal_of
       let own = K.own in
       (omega arith, (omega (arith, long), (omega arith, (narrow.object, (narrow.code, (narrow.value, fit_each 4 u.vector (below_every u.vector kept.clock_words)))))))
 
-  reads : (is_operation (frame_bytes u) ≡ true) × (operation_read (frame_bytes u) ≡ record { stations = length u.vector; sender = u.sender; object = u.object; code = u.code; value = u.value; vector = padded greatest_size u.vector })
+  back : (is_operation (frame_bytes u) ≡ true) × (operation_read (frame_bytes u) ≡ record { stations = length u.vector; sender = u.sender; object = u.object; code = u.code; value = u.value; vector = padded greatest_size u.vector })
   unfolding frame_bytes
-  reads = operation_reads_back u.sender u.object u.code u.value u.vector (let few = K.few in omega (arith, long)) fitting
+  back = operation_reads_back u.sender u.object u.code u.value u.vector (let few = K.few in omega (arith, long)) fitting
 
   reads_ok : is_operation (frame_bytes u) ≡ true
-  reads_ok = reads.0
+  reads_ok = back.0
 
   reads_frame : frame_of (operation_read (frame_bytes u)) ≡ sent
   unfolding frame_of padded table_of issued_by
-  reads_frame = ap frame_of reads.1 ∙ rw (take_at u.vector (replicate (greatest_size - length u.vector) 0) (length u.vector) refl, long) refl
+  reads_frame = ap frame_of back.1 ∙ rw (take_at u.vector (replicate (greatest_size - length u.vector) 0) (length u.vector) refl, long) refl
 
   line_back : bytes_of (hex_line (frame_bytes u)) ≡ frame_bytes u
   unfolding frame_bytes
@@ -102,7 +103,7 @@ pub record Says (words words' : List ℕ) (local : Local) (characters : List ℕ
   pub table_after : Table
   pub accepted : meaning.issue (table_of words) local ≡ meaning.Outcome.accepted issued_one table_after
   pub space_after_lem : words' ≡ rewritten words table_after
-  pub shaped : is_operation (bytes_of characters) ≡ true
+  pub shaped : (is_operation (bytes_of characters)) ≡ true
   pub frame : frame_of (operation_read (bytes_of characters)) ≡ record { size = (table_of words).header.size; operation = issued_one }
   -- another table that hears this line is offered this operation
   pub heard : (other : List ℕ) → holds_table other ≡ true → received_by characters other ≡ received_as other (meaning.receive (table_of other) (record { size = (table_of words).header.size; operation = issued_one }))
@@ -115,7 +116,7 @@ module _ (words : List ℕ) (K : Checked words) (local : Local) (ok : refusal_of
   unfolding meaning.issue outcome
   accepts = rw ok refl
 
-  shaped_line : is_operation (bytes_of characters) ≡ true
+  shaped_line : (is_operation (bytes_of characters)) ≡ true
   shaped_line = ap (λ (l : List ℕ). (is_operation l)) e ∙ reads_ok words K local ok narrow
 
   frame_line : frame_of (operation_read (bytes_of characters)) ≡ sent words K local ok narrow

@@ -1,5 +1,8 @@
 -- Any lines, one after the other, given to a space that an opening line was answered in: every question line gets what the definitions say.
-use Rattle.std.specs.Prelude.{Result, Ok, Err}
+use Rattle.std.proofs.Common.{Result, Ok, Err}
+use Rattle.words_tags.specs.declared.RowCount.{RowCount}
+use Rattle.line_put.specs.declared.TooShort.{TooShort}
+use Rattle.line_read.specs.Named.{is_opening, is_operation, is_issue, is_settling, is_question}
 use mathlib.Core.Path.{◌≡◌, refl, sym, ap, ◌∙◌, subst}
 use mathlib.Core.Bool.{Bool, true, false, not, ◌&&◌, false≢true}
 use mathlib.Core.List.{List, [], ◌∷◌, ◌++◌, append-nil, append_assoc}
@@ -27,16 +30,14 @@ use Rattle.line_hex.specs.Hex.{hex_line}
 use Rattle.line_hex.specs.Numbers.{big_endian}
 use Rattle.line_hex.specs.Putting.{put_at}
 use Rattle.line_shape.specs.Shapes.{written}
-use Rattle.line_put.specs.Writing.{line_bytes}
-use Rattle.line_put.specs.declared.TooShort.{TooShort}
+use Rattle.line_put.specs.Writing.{line_written, line_bytes}
 use Rattle.line_read.specs.Types.{question, refused, longest_frame}
-use Rattle.line_read.specs.Named.{issue_read, is_issue, opening_read, is_opening, operation_read, is_operation, question_read, is_question, settling_read, is_settling}
+use Rattle.line_read.specs.Named.{issue_read, opening_read, operation_read, question_read, settling_read}
 use Rattle.line_print.specs.Printed.{printed}
 use Rattle.call_question.specs.AnswerBytes.{list_bytes, refusal_bytes, reply_bytes}
 use Rattle.call_question.proofs.Told.{chain, never_long}
-use Rattle.words_tags.specs.declared.RowCount.{RowCount}
 use Rattle.call_checked.specs.Called.{frame_bytes, frame_of, header_read, issued_on, local_of, opened_by, received_as, received_on, settled_on}
-use Rattle.call_answer.specs.Answering.{answer_on, done_bytes, issue_answer, issued_bytes, opened_bytes, question_answer, received_bytes, second_opening, settled_bytes, answered_after, frame_room}
+use Rattle.call_answer.specs.Answering.{answer_on, done_bytes, issue_answer, issued_bytes, outcome_bytes, question_answer, second_opening, settled_bytes, answered_after, frame_room}
 use Rattle.call_answer.proofs.Framing.{frame_room_lem, issue_framed, issue_refused}
 use Rattle.line_decode.specs.Decoding.{bytes_of, type_of}
 use Rattle.line_decode.specs.LineKinds.{kind_of}
@@ -93,7 +94,7 @@ module _ (line words : List ℕ) (held : holds_table words ≡ true) where
     issue_by : (r : Result ℕ ℕ) → (r, (x, y)) ≡ issued_on line words lent → x ≡ (issue_answer line words).1
     unfolding answered_after
     issue_by (Err number) e = ap (λ (q : Result ℕ TooShort × (List ℕ × List ℕ)). q.1.0)
-        (issue_refused words line out (checked words held) room (Err number) x y e number refl (printed space refused (number ∷ []) []).0 (printed space refused (number ∷ []) []).1 refl)
+        (issue_refused words line out (checked words held) room (Err number) x y e number refl (line_written space (refusal_bytes number)).0 (line_written space (refusal_bytes number)).1 refl)
     issue_by (Ok n) e = ap (λ (q : Result ℕ TooShort × (List ℕ × List ℕ)). q.1.0)
         (issue_framed words line out (checked words held) room (Ok n) x y e n refl (put_at space 0 (big_endian 1 0)).0 (put_at space 0 (big_endian 1 0)).1 refl)
 
@@ -132,8 +133,8 @@ module _ (line words : List ℕ) (s : Station) (H : Holds words s) where
   local = local_of (issue_read (bytes_of line))
 
   -- an outcome, as it is told
-  frame_outcome : (number : ℕ) (u : Operation) (t : Table) → (after_outcome s (outcome number u t)).accepted ≡ pick (is_done (received_bytes (received_as words (outcome number u t)).0)) (u ∷ []) [] ++ s.accepted
-  unfolding outcome received_as after_outcome received_bytes
+  frame_outcome : (number : ℕ) (u : Operation) (t : Table) → (after_outcome s (outcome number u t)).accepted ≡ pick (is_done (outcome_bytes (received_as words (outcome number u t)).0)) (u ∷ []) [] ++ s.accepted
+  unfolding outcome received_as after_outcome outcome_bytes
   frame_outcome number u t = cases (eqb number 0)
       (λ q. rw (q, done_is_done) refl)
       (λ q. rw (q, refusal_not_done number) refl)
@@ -144,16 +145,16 @@ module _ (line words : List ℕ) (s : Station) (H : Holds words s) where
       (λ q. rw q refl)
       (λ q. rw (q, refusal_not_done number) refl)
 
-  frame_taken : (after_outcome s (meaning.receive s.table frame)).accepted ≡ pick (is_done (received_bytes (received_as words (meaning.receive (table_of words) frame)).0)) (frame.operation ∷ []) [] ++ s.accepted
+  frame_taken : (after_outcome s (meaning.receive s.table frame)).accepted ≡ pick (is_done (outcome_bytes (received_as words (meaning.receive (table_of words) frame)).0)) (frame.operation ∷ []) [] ++ s.accepted
   unfolding meaning.receive
   frame_taken = ap (λ (t : Table). (after_outcome s (meaning.receive t frame)).accepted) (sym H.table_is)
       ∙ frame_outcome (refusal_of_frame (table_of words) frame) frame.operation (after_arrival (table_of words) frame.operation (set (table_of words).last frame.operation.sender frame.operation.vector))
 
-  frame_accepted : (after_all (events_of (receives line) words) s).accepted ≡ pick (is_done (received_bytes (received_on line words).0)) (frame.operation ∷ []) [] ++ s.accepted
-  unfolding events_of after_all after received_on received_bytes
+  frame_accepted : (after_all (events_of (receives line) words) s).accepted ≡ pick (is_done (outcome_bytes (received_on line words).0)) (frame.operation ∷ []) [] ++ s.accepted
+  unfolding events_of after_all after received_on outcome_bytes
   frame_accepted = by (is_operation (bytes_of line))
     where
-      by : (b : Bool) → (after_all (pick b (history.receives frame ∷ []) []) s).accepted ≡ pick (is_done (received_bytes (pick b (received_as words (meaning.receive (table_of words) frame)) (Err 1, words)).0)) (frame.operation ∷ []) [] ++ s.accepted
+      by : (b : Bool) → (after_all (pick b (history.receives frame ∷ []) []) s).accepted ≡ pick (is_done (outcome_bytes (pick b (received_as words (meaning.receive (table_of words) frame)) (Err 1, words)).0)) (frame.operation ∷ []) [] ++ s.accepted
       by true = frame_taken
       by false = rw (refusal_not_done 1) refl
 
@@ -265,16 +266,16 @@ module _ (line before words : List ℕ) (O : OpenedBy line before words) where
   not_done : (bytes after : List ℕ) → is_done bytes ≡ false → ◌≡◌ {A = List ℕ × List ℕ} (bytes, after) (done_bytes, words) → ⊥
   not_done bytes after f e = false≢true (sym f ∙ ap (λ (q : List ℕ × List ℕ). is_done q.0) e ∙ done_is_done)
 
-  by_opened : (r : Result (Unit {0}) ℕ) (x : List ℕ) → ◌≡◌ {A = List ℕ × List ℕ} (opened_bytes r, x) (done_bytes, words) → ◌≡◌ {A = Result (Unit {0}) ℕ × List ℕ} (r, x) (Ok tt, words)
-  unfolding opened_bytes
+  by_opened : (r : Result (Unit {0}) ℕ) (x : List ℕ) → ◌≡◌ {A = List ℕ × List ℕ} (outcome_bytes r, x) (done_bytes, words) → ◌≡◌ {A = Result (Unit {0}) ℕ × List ℕ} (r, x) ((Ok tt), words)
+  unfolding outcome_bytes
   by_opened (Err number) x e = absurd (not_done (refusal_bytes number) x (refusal_not_done number) e)
-  by_opened (Ok none) x e = ap (λ (q : List ℕ × List ℕ). (Ok tt, q.1)) e
+  by_opened (Ok tt) x e = ap (λ (q : List ℕ × List ℕ). ((Ok tt), q.1)) e
 
-  pub opened_fresh : opened_by line before ≡ (Ok tt, words)
+  pub opened_fresh : opened_by line before ≡ ((Ok tt), words)
   unfolding answer_of answer_on first_answer kind_of second_opening
   opened_fresh = by (holds_table before) (subst (λ (type : ℕ). pick (holds_table before) (answer_on (kind_of type) line before) (first_answer (kind_of type) line before) ≡ (done_bytes, words)) O.is_opening O.answered)
     where
-      by : (b : Bool) → pick {A = List ℕ × List ℕ} b (second_opening line, before) (opened_bytes (opened_by line before).0, (opened_by line before).1) ≡ (done_bytes, words) → opened_by line before ≡ (Ok tt, words)
+      by : (b : Bool) → pick {A = List ℕ × List ℕ} b (second_opening line, before) (outcome_bytes (opened_by line before).0, (opened_by line before).1) ≡ (done_bytes, words) → opened_by line before ≡ ((Ok tt), words)
       by true e = absurd (not_done (second_opening line) before (refusal_not_done (pick (is_opening (bytes_of line)) 13 1)) e)
       by false e = by_opened (opened_by line before).0 (opened_by line before).1 e
 

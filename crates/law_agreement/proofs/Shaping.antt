@@ -1,4 +1,5 @@
 -- What a reader finds right is a line of its type and length, and the other way.
+use Rattle.line_read.specs.Named.{is_opening, is_operation, is_issue, is_settling, is_question}
 use mathlib.Core.Path.{◌≡◌, refl, sym, ap, ◌∙◌}
 use mathlib.Core.Bool.{Bool, true, false, ◌&&◌}
 use mathlib.Core.List.{List, [], ◌∷◌, ◌++◌}
@@ -16,13 +17,12 @@ use Rattle.line_hex.specs.Choice.{pick}
 use Rattle.line_hex.specs.Decoding.{is_line, pairs}
 use Rattle.line_hex.specs.Numbers.{AllBytes, number_from, number_of}
 use Rattle.line_hex.proofs.Bytes.{all_bytes_drop}
-use Rattle.line_shape.specs.Reading.{entries, fields_read, has_shape, padded, size_of, starts_with, unread}
+use Rattle.line_shape.specs.Reading.{entries, fields_read, has_shape, is_shaped, padded, size_of, starts_with, unread}
 use Rattle.line_shape.specs.Shapes.{length_of, read}
 use Rattle.line_shape.specs.declared.Fields.{Fields}
-use Rattle.line_read.specs.Types as lines
-use Rattle.line_shape.specs.Reading.{is_shaped}
+use Rattle.line_read.specs.Types as types
 use Rattle.line_read.specs.Types.{Line, head_of, is_of, line_read, opening, operation, issue, settling, question, printing, longest}
-use Rattle.line_read.specs.Named.{count_of, stations_of, opening_of, issue_read, is_issue, opening_read, is_opening, operation_read, is_operation, printing_read, question_read, is_question, settling_read, is_settling}
+use Rattle.line_read.specs.Named.{count_of, stations_of, opening_of, issue_read, opening_read, operation_read, printing_read, question_read, settling_read}
 use Rattle.line_read.proofs.Named.{operation_stations, operation_vector_length}
 use Rattle.line_decode.specs.Decoding.{bytes_of}
 use Rattle.call_checked.specs.Called.{frame_of}
@@ -43,10 +43,9 @@ line_of type more line = by (is_line longest line)
     by false = sym (none_of type more)
 
 -- a line of vectors: at most 16 entries, and its shape
-fields_ok : (type : Line) → type.each ≡ 4 → (stations : ℕ) (bytes : List ℕ) → lines.is_line_of type stations bytes ≡ (leb stations greatest_size && is_of type stations bytes)
-unfolding lines.is_line_of is_shaped is_of
-fields_ok type four stations bytes =
-    ap (λ (w : ℕ). leb stations greatest_size && has_shape type.type_byte (length_of (head_of type) + w * stations) bytes) (sym four)
+shaped_is : (type : Line) → type.each ≡ 4 → (stations : ℕ) (bytes : List ℕ) → types.is_line_of type stations bytes ≡ (leb stations greatest_size && is_of type stations bytes)
+unfolding types.is_line_of is_shaped is_of
+shaped_is type four stations bytes = ap (λ (w : ℕ). leb stations greatest_size && has_shape type.type_byte (length_of (head_of type) + w * stations) bytes) (sym four)
 
 module _ (line : List ℕ) where
   abbrev bytes : List ℕ
@@ -58,15 +57,15 @@ module _ (line : List ℕ) where
 
   pub issue_shaped : is_issue bytes ≡ is_line_of issue 0 line
   unfolding is_issue
-  issue_shaped = fields_ok issue refl 0 bytes ∙ sym (line_of issue 0 line)
+  issue_shaped = shaped_is issue refl 0 bytes ∙ sym (line_of issue 0 line)
 
   pub settling_shaped : is_settling bytes ≡ is_line_of settling 0 line
   unfolding is_settling
-  settling_shaped = fields_ok settling refl 0 bytes ∙ sym (line_of settling 0 line)
+  settling_shaped = shaped_is settling refl 0 bytes ∙ sym (line_of settling 0 line)
 
   pub question_shaped : is_question bytes ≡ is_line_of question 0 line
   unfolding is_question
-  question_shaped = fields_ok question refl 0 bytes ∙ sym (line_of question 0 line)
+  question_shaped = shaped_is question refl 0 bytes ∙ sym (line_of question 0 line)
 
   pub printing_shaped : printing_read bytes ≡ is_line_of printing 0 line
   unfolding printing_read
@@ -74,7 +73,7 @@ module _ (line : List ℕ) where
 
   pub operation_shaped : is_operation bytes ≡ (leb (stations_of bytes) greatest_size && is_line_of operation (stations_of bytes) line)
   unfolding is_operation
-  operation_shaped = fields_ok operation refl (stations_of bytes) bytes ∙ ap (λ (b : Bool). leb (stations_of bytes) greatest_size && b) (sym (line_of operation (stations_of bytes) line))
+  operation_shaped = shaped_is operation refl (stations_of bytes) bytes ∙ ap (λ (b : Bool). leb (stations_of bytes) greatest_size && b) (sym (line_of operation (stations_of bytes) line))
 
 -- fields of one byte and of four
 pub one_byte : (bs : List ℕ) → AllBytes bs → number_of (take 1 bs) < 256
@@ -114,7 +113,7 @@ small_take (suc n) (x ∷ l) h = and_both (small x) (every small (take n l)) (an
 
 module _ (bytes : List ℕ) (h : AllBytes bytes) where
   small_vector : every small (operation_read bytes).vector ≡ true
-  unfolding operation_read line_read fields_read padded entries
+  unfolding operation_read line_read fields_read is_shaped padded entries
   small_vector = by (leb (stations_of bytes) greatest_size && has_shape 32 (size_of (head_of operation) (stations_of bytes)) bytes)
     where
       vector : List ℕ

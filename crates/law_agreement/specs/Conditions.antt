@@ -1,6 +1,9 @@
 -- 01's table of refusals, call by call: each number with its condition, in the order in which the call tries them. A number is given when its condition
 -- holds and that of no number before it does. Then the number of each answer, and what a call answers and leaves where it gives none.
+use Rattle.question.specs.Told as reply
+use Rattle.question.specs.Told.{Told}
 use Rattle.std.specs.Prelude.{Result, Ok, Err, Option, Some, None}
+use Rattle.words_tags.specs.declared.RowCount.{RowCount}
 use Rattle.std.specs.Prelude.{Bool, not, ◌&&◌, ◌||◌, cond, List, [], ◌∷◌, ◌++◌, ℕ, suc, leb, ltb, eqb, get_or, length, drop, set}
 use Rattle.meaning.specs.Order.{entry_limit, at_most}
 use Rattle.meaning.specs.Operations.{number_of}
@@ -11,8 +14,6 @@ use Rattle.meaning.specs.Refusals.{Refusal, ◌when◌, declared, operation_allo
 use Rattle.meaning.specs.Calls.{after_arrival, with_rows, rows_settled, steps, answered}
 use Rattle.words_layout.specs.Layout.{holds_table, table_of, rewritten, space_for, words_of}
 use Rattle.refusal_kind.specs.Asking.{asked_from}
-use Rattle.question.specs.Told.{Told}
-use Rattle.question.specs.Told as reply
 use Rattle.question.specs.Replies.{replied}
 use Rattle.line_hex.specs.Decoding.{is_line}
 use Rattle.line_hex.specs.Hex.{hex_line}
@@ -20,7 +21,6 @@ use Rattle.line_read.specs.Types.{Line, is_of, longest, opening, operation, issu
 use Rattle.line_read.specs.Named.{count_of, stations_of, issue_read, operation_read, question_read, settling_read}
 use Rattle.line_decode.specs.Decoding.{bytes_of}
 use Rattle.form_write.specs.Forms.{saved_form}
-use Rattle.words_tags.specs.declared.RowCount.{RowCount}
 use Rattle.call_checked.specs.Called.{header_read, local_of, frame_bytes, frame_of}
 
 -- Not "line not lower-case hexadecimal or without its LF", and not "wrong length or type": it has so many fields beyond those that each of its type has.
@@ -98,11 +98,11 @@ save_conditions line words place out =
 -- The number of an answer, 0 where it is no refusal. A question's is `question`'s own.
 unfoldable pub number_of_opened : Result (Unit {0}) ℕ → ℕ
 number_of_opened (Err number) = number
-number_of_opened (Ok none) = 0
+number_of_opened (Ok tt) = 0
 
 unfoldable pub number_of_received : Result (Unit {0}) ℕ → ℕ
 number_of_received (Err number) = number
-number_of_received (Ok none) = 0
+number_of_received (Ok tt) = 0
 
 unfoldable pub number_of_issued : Result ℕ ℕ → ℕ
 number_of_issued (Err number) = number
@@ -127,14 +127,14 @@ ask_refusal line words number =
 unfoldable pub open_result : List ℕ → List ℕ → Result (Unit {0}) ℕ × List ℕ
 open_result line words =
     let header = header_read (bytes_of line) in
-    (Ok tt, words_of (tables.opened header) ++ drop (space_for header.size header.capacity) words)
+    ((Ok tt), words_of (tables.opened header) ++ drop (space_for header.size header.capacity) words)
 
 -- A frame: the table after its arrival, and L with its vector.
 unfoldable pub receive_result : List ℕ → List ℕ → Result (Unit {0}) ℕ × List ℕ
 receive_result line words =
     let table = table_of words in
     let u = (frame_of (operation_read (bytes_of line))).operation in
-    (Ok tt, rewritten words (after_arrival table u (set table.last u.sender u.vector)))
+    ((Ok tt), rewritten words (after_arrival table u (set table.last u.sender u.vector)))
 
 -- A local operation: its frame's line, and the table after its arrival.
 unfoldable pub issue_result : List ℕ → List ℕ → List ℕ → Result ℕ ℕ × (List ℕ × List ℕ)
@@ -162,4 +162,4 @@ unfoldable pub save_result : List ℕ → ℕ → List ℕ → Result (Option �
 save_result words place out =
     let form = saved_form (table_of words) in
     let spelt = hex_line (get_or form place []) in
-    cond (ltb place (length form)) (Ok (Some (length spelt)), spelt ++ drop (length spelt) out) (Ok None, out)
+    cond (ltb place (length form)) (Ok (Some (length spelt)), spelt ++ drop (length spelt) out) ((Ok None), out)

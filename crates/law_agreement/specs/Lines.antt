@@ -1,4 +1,6 @@
 -- Lines given to the station program one after the other over one space: the space after them, and the operations that were accepted.
+use Rattle.question.specs.Told as reply
+use Rattle.question.specs.Told.{Told}
 use Rattle.std.specs.Prelude.{Result, Ok, Err, Option, Some, None}
 use Rattle.std.specs.Prelude.{◌≡◌, ◌≢◌, Bool, true, false, cond, List, [], ◌∷◌, ◌++◌, ℕ, eqb, length, take}
 use Rattle.meaning.specs.Operations as meant
@@ -7,19 +9,17 @@ use Rattle.meaning.specs.Refusals.{issued_by}
 use Rattle.meaning.specs.Calls as meaning
 use Rattle.words_layout.specs.Layout.{holds_table, table_of}
 use Rattle.refusal_kind.specs.Asking.{asked_from}
-use Rattle.question.specs.Told.{Told}
-use Rattle.question.specs.Told as reply
 use Rattle.line_hex.specs.Choice.{pick}
 use Rattle.line_hex.specs.Hex.{figure_zero, hex_line}
 use Rattle.line_read.specs.Types.{count, flag, issue, line_of, opening, operation, printing, question, settling, sum, longest_frame}
-use Rattle.line_read.specs.Named.{is_question, is_opening, issue_read, operation_read, question_read}
+use Rattle.line_read.specs.Named.{is_question, issue_read, operation_read, question_read}
 use Rattle.line_decode.specs.Decoding.{bytes_of, type_of}
 use Rattle.line_decode.specs.LineKinds.{kind_of}
 use Rattle.line_decode.specs.declared.LineKind.{LineKind}
 use Rattle.line_decode.specs.declared.LineKind.TheVariants as kind
 use Rattle.call_question.specs.AnswerBytes.{list_bytes, refusal_bytes, reply_bytes}
 use Rattle.call_checked.specs.Called.{frame_of, local_of, opened_by}
-use Rattle.call_answer.specs.Answering.{changing, done_bytes, opened_bytes, received_bytes, second_opening, settled_bytes}
+use Rattle.call_answer.specs.Answering.{changing, done_bytes, outcome_bytes, second_opening, settled_bytes}
 use Rattle.form_write.specs.Forms.{saved_form}
 use Rattle.form_save.specs.Saving.{saved_by}
 use Rattle.calls.specs.Answers.{answer_of, answered_by, lines_for, longest_answer}
@@ -112,15 +112,15 @@ replied_answer (reply.Holds there, out) = line_of flag (cond there 1 0 ∷ []) [
 unfoldable pub saved_answer : List ℕ → ℕ → Result (Option ℕ) ℕ × List ℕ → Option ℕ × (List ℕ × List ℕ)
 saved_answer words place (Err number, out) = let told = printed_at (refusal_bytes number ∷ []) place out in (told.0, (words, told.1))
 saved_answer words place (Ok (Some characters), out) = (Some characters, (words, out))
-saved_answer words place (Ok None, out) = (None, (words, out))
+saved_answer words place ((Ok None), out) = (None, (words, out))
 
 -- The answer to a line of each type is what the call of that type answers: on any space, with room for every frame, every list and every line of a form.
 pub record ByType (line words : List ℕ) : Type 0 where
-  pub frame : type_of line ≡ operation.type_byte → answer_of line words ≡ changing received_bytes (received_by line words)
+  pub frame : type_of line ≡ operation.type_byte → answer_of line words ≡ changing outcome_bytes (received_by line words)
   pub local : type_of line ≡ issue.type_byte → (hex_line (answer_of line words).0, (answer_of line words).1) ≡ issued_answer (calls.issued_by line words (zeros longest_frame))
   pub settled : type_of line ≡ settling.type_byte → answer_of line words ≡ changing settled_bytes (settled_by line words)
   pub asked : type_of line ≡ question.type_byte → answer_of line words ≡ (replied_answer (replied_by line words (zeros most_rows)), words)
-  pub opened : type_of line ≡ opening.type_byte → holds_table words ≡ false → answer_of line words ≡ changing opened_bytes (opened_by line words)
+  pub opened : type_of line ≡ opening.type_byte → holds_table words ≡ false → answer_of line words ≡ changing outcome_bytes (opened_by line words)
   pub second : type_of line ≡ opening.type_byte → holds_table words ≡ true → answer_of line words ≡ (second_opening line, words)
   -- that answer is the one output line
   pub one_line : type_of line ≢ printing.type_byte → lines_for line words ≡ (answer_of line words).0 ∷ []

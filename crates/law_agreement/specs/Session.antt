@@ -12,10 +12,10 @@ use Rattle.line_hex.specs.Hex.{digit_of, digits_of, hex_line, is_digit, value_of
 use Rattle.line_hex.specs.Numbers.{big_endian, number_from}
 use Rattle.line_hex.specs.Decoding.{is_line, just_lf, pair_of, pairs}
 use Rattle.line_shape.specs.Shapes.{length_of, read, written}
-use Rattle.line_shape.specs.Reading.{entries, fields_read, has_shape, padded, starts_with}
+use Rattle.line_shape.specs.Reading.{is_shaped, entries, fields_read, has_shape, padded, starts_with}
 use Rattle.line_put.specs.Writing.{line_bytes, written_each}
-use Rattle.line_read.specs.Types.{is_of, line_read}
-use Rattle.line_read.specs.Named.{issue_read, opening_read, operation_read, question_read, settling_read}
+use Rattle.line_read.specs.Types.{is_line_of, is_of, line_read}
+use Rattle.line_read.specs.Named.{is_opening, is_operation, is_issue, is_settling, is_question, issue_read, opening_read, operation_read, question_read, settling_read}
 use Rattle.line_decode.specs.Decoding.{bytes_of, type_of}
 use Rattle.line_decode.specs.LineKinds.{kind_of}
 use Rattle.line_decode.specs.Text.{characters, line_saying}
@@ -24,7 +24,7 @@ use Rattle.form_write.specs.Forms.{last_lines, row_lines, saved_form, total_line
 use Rattle.form_write.specs.Session.{session_form}
 use Rattle.call_question.specs.AnswerBytes.{list_bytes, refusal_bytes, reply_bytes}
 use Rattle.call_checked.specs.Called.{frame_bytes, frame_of, header_read, local_of, opened_as, opened_by, received_as, received_on, settled_as, settled_on}
-use Rattle.call_answer.specs.Answering.{answer_on, done_bytes, issue_answer, issued_bytes, opened_bytes, question_answer, received_bytes, second_opening, settled_bytes}
+use Rattle.call_answer.specs.Answering.{answer_on, done_bytes, issue_answer, issued_bytes, outcome_bytes, question_answer, second_opening, settled_bytes}
 use Rattle.line_read.specs.Named.{printing_read}
 use Rattle.calls.specs.Answers.{answer_of, first_answer, answered_by, lines_for, longest_answer, space_after}
 use Rattle.call_answer.specs.OutputLines.{printed_at}
@@ -131,9 +131,9 @@ pub record Session : Type 0 where
 
 pub session : Session
 unfolding all_words complement of_complement holds_table is_spelt rewritten table_of words_of digit_of digits_of hex_line is_digit value_of big_endian number_from is_line just_lf
-    pair_of pairs length_of read written entries fields_read has_shape padded starts_with line_bytes written_each is_of line_read issue_read opening_read operation_read
+    pair_of pairs length_of read written entries fields_read is_shaped has_shape padded starts_with line_bytes written_each is_of is_line_of is_opening is_operation is_issue is_settling is_question line_read issue_read opening_read operation_read
     question_read settling_read bytes_of list_bytes refusal_bytes reply_bytes frame_bytes frame_of header_read local_of opened_as opened_by received_as received_on settled_as
-    settled_on answer_on done_bytes issue_answer issued_bytes opened_bytes question_answer received_bytes second_opening settled_bytes answer_of first_answer type_of kind_of characters
+    settled_on answer_on done_bytes issue_answer issued_bytes outcome_bytes question_answer second_opening settled_bytes answer_of first_answer type_of kind_of characters
     line_saying printed_for lines_after answered_by lines_for printed_at space_after printing_read is_counter kind_in closing_line clock_line last_line opening_line row_line total_line
     last_lines row_lines saved_form total_lines said_after said_from answers_for
 session = record { whole_session_lem = refl; through_answer = refl; ends_with = refl; before_opening_lem = refl; at_table_lem = refl }

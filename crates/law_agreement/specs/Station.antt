@@ -1,4 +1,5 @@
 -- Calls one after the other over one space, and the events that they are in the meaning.
+use Rattle.line_read.specs.Named.{is_operation, is_issue, is_settling}
 use Rattle.std.specs.Prelude.{Bool, ◌&&◌, List, [], ◌∷◌, ◌++◌, ℕ, leb, length}
 use Rattle.meaning.specs.Refusals.{issued_by}
 use Rattle.meaning.specs.History as history
@@ -6,7 +7,7 @@ use Rattle.meaning.specs.History.{Event}
 use Rattle.words_layout.specs.Layout.{table_of}
 use Rattle.line_hex.specs.Choice.{pick}
 use Rattle.line_hex.specs.Hex.{hex_line}
-use Rattle.line_read.specs.Named.{issue_read, is_issue, operation_read, is_operation, settling_read, is_settling}
+use Rattle.line_read.specs.Named.{issue_read, operation_read, settling_read}
 use Rattle.line_decode.specs.Decoding.{bytes_of}
 use Rattle.calls.specs.Calls as calls
 use Rattle.call_checked.specs.Called.{frame_bytes, frame_of, local_of}
@@ -38,7 +39,7 @@ unfoldable pub events_of : Call → List ℕ → List Event
 events_of (receives line) words =
     pick (is_operation (bytes_of line)) (history.receives (frame_of (operation_read (bytes_of line))) ∷ []) []
 events_of (issues line out) words =
-    pick (is_issue (bytes_of line) && frame_fits line words out) (history.issues (local_of (issue_read (bytes_of line))) ∷ []) []
+    pick ((is_issue (bytes_of line)) && frame_fits line words out) (history.issues (local_of (issue_read (bytes_of line))) ∷ []) []
 events_of (settles line) words =
     pick (is_settling (bytes_of line)) (history.settles (settling_read (bytes_of line)).limit ∷ []) []
 

@@ -1,4 +1,4 @@
-use mathlib.Core.Path.{refl}
+use mathlib.Core.Path.{refl, sym}
 use Rattle.line_decode.specs.declared.LineKind.TheVariants as kind
 use Rattle.call_answer.specs.Answering.{answer_on}
 use Rattle.call_answer.proofs.Choosing.{answers_frame, answers_issue, answers_misshapen, answers_opening, answers_question, answers_settling}
@@ -8,7 +8,7 @@ pub returns-in-Opening : goal.returns-in-Opening
 returns-in-Opening c = search answers_opening
 
 pub returns-in-Operation : goal.returns-in-Operation
-returns-in-Operation c = search answers_frame
+returns-in-Operation c = answers_frame _ _ _ _ _ _ c.in-Operation.is _ _ c.receive_line.ensures (rw (sym c.by_number.ensures) c.answer_done.ensures)
 
 pub returns-in-Issue : goal.returns-in-Issue
 returns-in-Issue c = search answers_issue

@@ -4,5 +4,5 @@ use Rattle.call_answer.proofs.answer_opening.Goals as goal
 pub returns-then-is_opening : goal.returns-then-is_opening
 returns-then-is_opening c = search second_refused
 
-pub returns : goal.returns
-returns c = search no_opening
+pub returns-else-is_opening : goal.returns-else-is_opening
+returns-else-is_opening c = search no_opening

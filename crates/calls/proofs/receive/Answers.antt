@@ -1,12 +1,11 @@
-use Rattle.calls.proofs.Tested.{found}
-use Rattle.calls.proofs.Tested.{receive_no_table, receive_table}
+use Rattle.calls.proofs.Tested.{found, receive_no_table, receive_table}
 use Rattle.calls.proofs.receive.Goals as goal
 
 pub receive_line-requires : goal.receive_line-requires
 receive_line-requires c = search found
 
-pub returns-then-is_table : goal.returns-then-is_table
-returns-then-is_table c = search receive_table
+pub returns-then-not-is_table : goal.returns-then-not-is_table
+returns-then-not-is_table c = search receive_no_table
 
 pub returns : goal.returns
-returns c = search receive_no_table
+returns c = search receive_table

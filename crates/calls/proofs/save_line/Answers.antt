@@ -8,5 +8,5 @@ save_checked-requires c = search found
 pub returns-then-is_table : goal.returns-then-is_table
 returns-then-is_table c = search save_table
 
-pub returns : goal.returns
-returns c = search save_no_table
+pub returns-else-is_table : goal.returns-else-is_table
+returns-else-is_table c = search save_no_table

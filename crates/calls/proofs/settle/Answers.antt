@@ -5,8 +5,8 @@ use Rattle.calls.proofs.settle.Goals as goal
 pub settle_line-requires : goal.settle_line-requires
 settle_line-requires c = search found
 
-pub returns-then-is_table : goal.returns-then-is_table
-returns-then-is_table c = (search settle_table, search table_falls)
+pub returns-then-not-is_table : goal.returns-then-not-is_table
+returns-then-not-is_table c = (search settle_no_table, search no_table_falls)
 
 pub returns : goal.returns
-returns c = (search settle_no_table, search no_table_falls)
+returns c = (search settle_table, search table_falls)
