@@ -20,6 +20,7 @@ pub enum Judged {
 }
 
 // What a line of a form says of the whole of it.
+#[tactic(auto, unfolding(crate::specs::Judging::judged_as))]
 fn verdict(loaded: Result<Loaded, Refusal>) -> Judged
     ensures { result ≡ judged_as (numbered loaded) }
 {
