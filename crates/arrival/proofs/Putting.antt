@@ -4,7 +4,7 @@ use mathlib.Core.Bool.{Bool, true, false, not}
 use mathlib.Core.List.{List, []}
 use Prim.Native.Nat.{ℕ, ◌+◌, ◌-◌}
 use borrow.Author.Tests.{eq-eqb, ne_eqb}
-use lib.Dec.{eqb, leb, ltb}
+use lib.Dec.{leb, ltb}
 use lib.ListN.{length, take, drop}
 use Rattle.meaning.specs.Tests.{any}
 use Rattle.meaning.specs.Order.{Vector}
@@ -17,28 +17,6 @@ use Rattle.table_change.specs.Changes.{Opened, rows_left}
 use Rattle.table_change.proofs.Changing.{all_of, left_count}
 use Rattle.arrival.specs.Arrives.{has_value, has_room}
 use Rattle.arrival.proofs.RowsAfter.{count_put, count_none}
-
--- "a clear gets none in any kind, a remove or disable gets none in kinds 5 and 8"
-module _ (a : Arrival) where
-  abbrev gets : Bool
-  gets = gets_row a.kind (operation_of a [])
-
-  pub gets_clear : a.code ≡ 3 → false ≡ gets
-  unfolding gets_row
-  gets_clear e = rw (eq-eqb a.code 3 e) refl
-
-  pub gets_add : (a.code ≡ 3 → ⊥) → (a.code ≡ 2 → ⊥) → true ≡ gets
-  unfolding gets_row
-  gets_add c e = rw (ne_eqb a.code 3 c, ne_eqb a.code 2 e) refl
-
-  module _ (c : a.code ≡ 3 → ⊥) (e : a.code ≡ 2) where
-    pub gets_flag : a.kind ≡ 5 → false ≡ gets
-    unfolding gets_row
-    gets_flag k = rw (ne_eqb a.code 3 c, eq-eqb a.code 2 e, eq-eqb a.kind 5 k) refl
-
-    pub gets_remove : (a.kind ≡ 5 → ⊥) → not (eqb a.kind 8) ≡ gets
-    unfolding gets_row
-    gets_remove k = rw (ne_eqb a.code 3 c, eq-eqb a.code 2 e, ne_eqb a.kind 5 k) refl
 
 -- whether a row is put, in any kind
 module _ (s : List ℕ) (n count : ℕ) (a : Arrival) (v : Vector) (O : Opened s n count) (ic : Bool) (ec : ic ≡ is_counter a.kind) where

@@ -12,7 +12,7 @@ ghost use Rattle.table_change.specs.Changes.{Opened};
 ghost use Rattle.arrival.specs.Arrives.{Arrives, arrival_from, has_room, has_value, totals_with};
 
 use table_drop::Arrival;
-use table_kinds::{ADD_WINS_SET, ADDS, CLEARS, ENABLE_WINS_FLAG, REMOVES};
+use table_kinds::{ADDS, Code, Kind};
 use words_layout::{CAPACITY_AT, KEY, KINDS_AT, NO_HIGH, OBJECTS_AT, SETTLED, UNSETTLED};
 use words_tags::{RowCount, Station, Value};
 
@@ -45,19 +45,18 @@ fn has_value(rows: &[u32], width: usize, count: RowCount, a: Arrival, v: &[u32])
 }
 
 // Whether an arrival of kinds 5 to 9 gets a row: a clear gets none, and a remove none where only adds are stored.
+#[tactic(auto, unfolding(meaning::specs::Arrival::gets_row))]
 fn gets_row(a: Arrival) -> bool
     ensures { result ≡ gets_row a.kind (operation_of a []) }
 {
-    if a.code == CLEARS {
-        return false;
+    match Code::try_from(a.code) {
+        Ok(Code::Clears) => false,
+        Ok(Code::Removes) => !matches!(
+            Kind::try_from(a.kind),
+            Ok(Kind::EnableWinsFlag | Kind::AddWinsSet)
+        ),
+        Ok(Code::Adds) | Err(_) => true,
     }
-    if a.code != REMOVES {
-        return true;
-    }
-    if a.kind == ENABLE_WINS_FLAG {
-        return false;
-    }
-    a.kind != ADD_WINS_SET
 }
 
 // Whether a row is put for the arrival, in any kind: in kinds 3 and 4 none for the add of a value that has one.

@@ -3,21 +3,14 @@ use Rattle.std.specs.Prelude.{◌⊎◌}
 use Rattle.std.proofs.Common.{inl, inr, lit≤}
 use Prim.Native.Nat.{ℕ, ◌≤◌, ◌<◌}
 use mathlib.Core.Path.{◌≡◌, refl, sym, subst}
-use mathlib.Core.Bool.{true, false, ◌||◌}
+use mathlib.Core.Bool.{false}
 use mathlib.Core.List.{List, [], ◌∷◌}
 use native.Mathlib.Omega.{arith}
-use borrow.Author.Tests.{eqb-true, eqb-false, eq-eqb, ne_eqb}
+use borrow.Author.Tests.{eqb-true, eqb-false, ne_eqb}
 use lib.Dec.{eqb}
 use lib.ListN.{length, get_or, get_or-eq_default}
 use Rattle.meaning.specs.Operations.{codes_of, is_counter, removes_stand}
 use Rattle.meaning.proofs.Tests.{cases}
-
--- one of two numbers
-pub either_first : (x m n : ℕ) → x ≡ m → true ≡ (eqb x m || eqb x n)
-either_first x m n e = rw (eq-eqb x m e) refl
-
-pub either_second : (x m n : ℕ) → (x ≡ m → ⊥) → eqb x n ≡ (eqb x m || eqb x n)
-either_second x m n e = rw (ne_eqb x m e) refl
 
 -- no number but a kind's is a counter's, or that of a kind in which removes stand
 module _ (number : ℕ) (none : number < 1 ⊎ 9 < number) where

@@ -11,26 +11,7 @@ use std::fmt;
 // What stands for the kind of an object that is not declared.
 pub const NO_KIND: u32 = 0;
 
-// The nine kinds as they stand in words.
-pub const GROW_COUNTER: u32 = 1;
-
-pub const UP_DOWN_COUNTER: u32 = 2;
-
-pub const GROW_SET: u32 = 3;
-
-pub const TWO_PHASE_SET: u32 = 4;
-
-pub const ENABLE_WINS_FLAG: u32 = 5;
-
-pub const DISABLE_WINS_FLAG: u32 = 6;
-
-pub const MULTI_VALUE_REGISTER: u32 = 7;
-
-pub const ADD_WINS_SET: u32 = 8;
-
-pub const REMOVE_WINS_SET: u32 = 9;
-
-// The nine kinds.
+// The nine kinds, in the order of their numbers, from 1 on.
 #[derive(Clone, Copy, Debug, PartialEq, Eq)]
 pub enum Kind {
     GrowCounter,
@@ -72,15 +53,15 @@ impl TryFrom<u32> for Kind {
 
     fn try_from(number: u32) -> Result<Self, UnknownKind> {
         match number {
-            GROW_COUNTER => Ok(Kind::GrowCounter),
-            UP_DOWN_COUNTER => Ok(Kind::UpDownCounter),
-            GROW_SET => Ok(Kind::GrowSet),
-            TWO_PHASE_SET => Ok(Kind::TwoPhaseSet),
-            ENABLE_WINS_FLAG => Ok(Kind::EnableWinsFlag),
-            DISABLE_WINS_FLAG => Ok(Kind::DisableWinsFlag),
-            MULTI_VALUE_REGISTER => Ok(Kind::MultiValueRegister),
-            ADD_WINS_SET => Ok(Kind::AddWinsSet),
-            REMOVE_WINS_SET => Ok(Kind::RemoveWinsSet),
+            1 => Ok(Kind::GrowCounter),
+            2 => Ok(Kind::UpDownCounter),
+            3 => Ok(Kind::GrowSet),
+            4 => Ok(Kind::TwoPhaseSet),
+            5 => Ok(Kind::EnableWinsFlag),
+            6 => Ok(Kind::DisableWinsFlag),
+            7 => Ok(Kind::MultiValueRegister),
+            8 => Ok(Kind::AddWinsSet),
+            9 => Ok(Kind::RemoveWinsSet),
             _ => Err(UnknownKind(number)),
         }
     }

@@ -8,12 +8,11 @@ use lib.ListN.{length, get_or, take, drop, length-append, length-drop}
 use Rattle.std.proofs.lemmas.List.{drop-take}
 use lib.Seq.{take-take, take_at, drop_at, length-take-le}
 use denote.Ref.{Bor}
-use Rattle.std.specs.Iterator.{AlwaysYields, CallableAtEachTurn}
+use Rattle.std.specs.Iterator.{AlwaysYields}
 use Rattle.std.specs.Slice.Iter.{chunks_exact_rest, chunks_exact_size, chunks_exact_steps}
 use Rattle.std.specs.declared.slice.ChunksExact.{ChunksExact}
 use Rattle.std.specs.Prelude.{Some}
 use Rattle.std.proofs.lemmas.Iterator.{YieldsList}
-use Rattle.std.proofs.lemmas.Iterator.Adapters.{serves_from_places}
 use Rattle.words_layout.specs.Words.{pieces}
 use Rattle.words_layout.proofs.Pieces.{Wide}
 
@@ -53,8 +52,3 @@ YieldsList-from_pieces {s} width count words size rest some room = record {
   runs = subst (AlwaysYields chunks_exact_steps (λ x. x.now) s) (pieces_take width count words)
       (chunks_give width count s (take (count * width) words) size rest (length-take-le (count * width) words room) some);
 }
-
--- a closure that asks for the width of a chunk may be called at each
-pub serves_wide : {s : ChunksExact ℕ} {rows : List (List ℕ)} {F : Type 0} {R : F → Bor (List ℕ) → F → Type 0} {Q : F → Bor (List ℕ) → Type 0} {f : F} (width : ℕ) → YieldsList chunks_exact_steps (λ x. x.now) s rows → Wide width rows
-    → ((x : Bor (List ℕ)) (q : F) → R f x q → q ≡ f) → ((x : Bor (List ℕ)) → length x.now ≡ width → Q f x) → CallableAtEachTurn chunks_exact_steps R Q s f
-serves_wide {rows = rows} width yields wide stays asks = serves_from_places yields stays (λ x k h e. asks x (ap length e ∙ wide_at width rows k x.now wide h))

@@ -13,9 +13,6 @@ drop_more a b m n h e =
     let q : n ≡ m + (n - m) = omega arith in
     rw (q, ← drop-drop (n - m) m a, ← drop-drop (n - m) m b, e) refl
 
-pub copy_done : (s t d : List ℕ) (to j w : ℕ) → t ≡ paste s to d j → j ≤ w → w ≤ j → t ≡ paste s to d w
-copy_done s t d to j w inv h k = let e : w ≡ j = omega arith in rw e inv
-
 -- a turn of a write
 pub put_turn : (s t new : List ℕ) (at j r : ℕ) → at + length new ≤ length s → j < length new → r ≡ get_or new j 0 → t ≡ paste s at new j → set t (at + j) r ≡ paste s at new (j + 1)
 put_turn s t new at j r h k e inv = rw (e, inv, add-one) (paste-suc s at new j 0 (omega arith) k)
