@@ -1,8 +1,10 @@
 -- Whether a row is put, and whether there is room for it.
 use mathlib.Core.Path.{◌≡◌, refl, sym, ap, ◌∙◌}
 use mathlib.Core.Bool.{Bool, true, false, not, ◌||◌}
-use mathlib.Core.List.{List, [], map}
-use Prim.Native.Nat.{ℕ, ◌+◌, ◌-◌, ◌*◌, ◌≤◌, ◌<◌}
+use mathlib.Core.List.{List, [], ◌∷◌, map}
+use Rattle.std.specs.Bool.{MatchBool}
+use Rattle.std.specs.List.{AllWithin, HoldsAt}
+use Prim.Native.Nat.{ℕ, zero, suc, ◌+◌, ◌-◌, ◌<◌}
 use native.Mathlib.Omega.{arith}
 use borrow.Author.Tests.{eq-eqb, ne_eqb}
 use lib.Dec.{eqb, leb, ltb}
@@ -12,64 +14,32 @@ use Rattle.meaning.specs.Order.{Vector}
 use Rattle.meaning.specs.Operations.{is_counter}
 use Rattle.meaning.specs.Rows.{Row}
 use Rattle.meaning.specs.Arrival.{gets_row, same_value}
-use Rattle.words_layout.specs.Words.{pieces}
 use Rattle.words_layout.specs.Layout.{row_of, table_of, capacity_in, rows_at}
 use Rattle.table_drop.specs.Arriving.{operation_of, is_kept, puts, staying}
 use Rattle.table_drop.specs.declared.Arrival.{Arrival}
-use Rattle.table_drop.proofs.Dropping.{Place, place_start, place_next, ahead}
 use Rattle.table_change.specs.Changes.{Opened, rows_left}
 use Rattle.table_change.proofs.Changing.{all_of, left_count}
 use Rattle.arrival.specs.Arrives.{has_value, has_room}
 use Rattle.arrival.proofs.RowsAfter.{count_put, count_none}
 
--- a pass over rows until one is of the value
-pub record Looking (a : Arrival) (v : Vector) (w count : ℕ) (s : List ℕ) (from more : ℕ) : Type 0 where
-  pub place : Place w count s from more
-  pub ahead_same : has_value a v w count s ≡ has_value a v w more (drop from s)
+-- what `any` answers, as the test of the list that a chain gives
+module _ (test : List ℕ → Bool) where
+  none_meets : (l : List (List ℕ)) → AllWithin (λ x. test x ≡ false) l 0 (length l) → any test l ≡ false
+  none_meets [] h = refl
+  none_meets (x ∷ l) h = let p : test x ≡ false = h 0 x (omega arith) (omega arith) in rw p (none_meets l (λ k d a b. h (suc k) d (omega arith) (omega arith)))
 
-pub looking_start : (a : Arrival) (v : Vector) (s : List ℕ) (w count : ℕ) → count * w ≤ length s → Looking a v w count s 0 count
-looking_start a v s w count h = record { place = place_start s w count h; ahead_same = refl }
+  one_meets : (l : List (List ℕ)) (k : ℕ) → k < length l → HoldsAt (λ x. test x ≡ true) l k → any test l ≡ true
+  one_meets [] k a h = absurd (omega arith)
+  one_meets (x ∷ l) zero a h = let p : test x ≡ true = h x in rw p refl
+  one_meets (x ∷ l) (suc k) a h = let p : any test l ≡ true = one_meets l k (omega arith) h in elim (test x) as (λ b. (b || any test l) ≡ true) [ true ↦ refl | false ↦ p ]
 
-module _ (a : Arrival) (v : Vector) (s : List ℕ) (w count from more : ℕ) (L : Looking a v w count s from more) (h : 0 < more) (r : Bool) (e : r ≡ same_value (operation_of a v) (row_of (take (from + w - from) (drop from s)))) where
-  abbrev rest : List Row
-  rest = map row_of (pieces w (more - 1) (drop (from + w) s))
+  pub any_by_cases : (r : Bool) (l : List (List ℕ)) → MatchBool r ((k : ℕ) × (k < length l) × HoldsAt (λ x. test x ≡ true) l k) (AllWithin (λ x. test x ≡ false) l 0 (length l)) → r ≡ any test l
+  any_by_cases true l h = sym (one_meets l h.0 h.1 h.2)
+  any_by_cases false l h = sym (none_meets l h)
 
-  whole : has_value a v w count s ≡ (r || any (same_value (operation_of a v)) rest)
-  unfolding has_value
-  whole = L.ahead_same ∙ ap (λ (l : List (List ℕ)). any (same_value (operation_of a v)) (map row_of l)) (ahead s w count from more L.place h) ∙ rw (sym e) refl
-
-  pub looking_found : r ≡ true → true ≡ has_value a v w count s
-  looking_found t = sym (whole ∙ rw t refl)
-
-  pub looking_on : r ≡ false → Looking a v w count s (from + w) (more - 1)
-  unfolding has_value
-  looking_on f = record { place = place_next s w count from more L.place h; ahead_same = whole ∙ rw f refl }
-
-pub looking_done : (a : Arrival) (v : Vector) (s : List ℕ) (w count from more : ℕ) → Looking a v w count s from more → more ≤ 0 → false ≡ has_value a v w count s
-unfolding has_value
-looking_done a v s w count from more L h = let z : more ≡ 0 = omega arith in sym (L.ahead_same ∙ rw z refl)
-
--- "a clear gets none in any kind, a remove or disable gets none in kinds 5 and 8"
-module _ (a : Arrival) where
-  abbrev gets : Bool
-  gets = gets_row a.kind (operation_of a [])
-
-  pub gets_clear : a.code ≡ 3 → false ≡ gets
-  unfolding gets_row
-  gets_clear e = rw (eq-eqb a.code 3 e) refl
-
-  pub gets_add : (a.code ≡ 3 → ⊥) → (a.code ≡ 2 → ⊥) → true ≡ gets
-  unfolding gets_row
-  gets_add c e = rw (ne_eqb a.code 3 c, ne_eqb a.code 2 e) refl
-
-  module _ (c : a.code ≡ 3 → ⊥) (e : a.code ≡ 2) where
-    pub gets_flag : a.kind ≡ 5 → false ≡ gets
-    unfolding gets_row
-    gets_flag k = rw (ne_eqb a.code 3 c, eq-eqb a.code 2 e, eq-eqb a.kind 5 k) refl
-
-    pub gets_remove : (a.kind ≡ 5 → ⊥) → not (eqb a.kind 8) ≡ gets
-    unfolding gets_row
-    gets_remove k = rw (ne_eqb a.code 3 c, eq-eqb a.code 2 e, ne_eqb a.kind 5 k) refl
+pub any_of_rows : (p : Row → Bool) (l : List (List ℕ)) → any (λ words. p (row_of words)) l ≡ any p (map row_of l)
+any_of_rows p [] = refl
+any_of_rows p (x ∷ l) = ap (λ (b : Bool). p (row_of x) || b) (any_of_rows p l)
 
 -- whether a row is put, in any kind
 module _ (s : List ℕ) (n count : ℕ) (a : Arrival) (v : Vector) (O : Opened s n count) (ic : Bool) (ec : ic ≡ is_counter a.kind) where
@@ -87,7 +57,7 @@ module _ (s : List ℕ) (n count : ℕ) (a : Arrival) (v : Vector) (O : Opened s
         let g : r ≡ any (same_value (operation_of a v)) (table_of s).rows = f ∙ rw (all_of s base, start, O.size_is, O.count_is) refl in
         rw (sym ec ∙ nc, sym ek ∙ t, eq-eqb a.code 1 e) (ap not g)
 
-    pub puts_other : ik ≡ true → (a.code ≡ 1 → ⊥) → true ≡ put
+    pub puts_other : ik ≡ true → (a.code ≡ 1 → ⊥) → not (eqb a.code 1) ≡ put
     unfolding puts
     puts_other t e = rw (sym ec ∙ nc, sym ek ∙ t, ne_eqb a.code 1 e) refl
 
