@@ -12,7 +12,7 @@ ghost use Rattle.table_change.specs.Changes.{Opened};
 ghost use Rattle.arrival.specs.Arrives.{Arrives, arrival_from, has_room, has_value, totals_with};
 
 use table_drop::Arrival;
-use table_kinds::{ADDS, Code, Kind};
+use table_kinds::{ADDS, CLEARS, Kind, REMOVES};
 use words_layout::{CAPACITY_AT, KEY, KINDS_AT, NO_HIGH, OBJECTS_AT, SETTLED, UNSETTLED};
 use words_tags::{RowCount, Station, Value};
 
@@ -27,10 +27,10 @@ pub fn arrival_of(s: &[u32], object: u32, code: u32, value: Value, sender: Stati
     let end = KINDS_AT + words_tags::wide(s[OBJECTS_AT]);
     Arrival {
         kind: table_kinds::kind_of(&s[KINDS_AT..end], object),
-        object: object,
-        code: code,
-        value: value,
-        sender: sender,
+        object,
+        code,
+        value,
+        sender,
     }
 }
 
@@ -49,14 +49,11 @@ fn has_value(rows: &[u32], width: usize, count: RowCount, a: Arrival, v: &[u32])
 fn gets_row(a: Arrival) -> bool
     ensures { result ≡ gets_row a.kind (operation_of a []) }
 {
-    match Code::try_from(a.code) {
-        Ok(Code::Clears) => false,
-        Ok(Code::Removes) => !matches!(
-            Kind::try_from(a.kind),
-            Ok(Kind::EnableWinsFlag | Kind::AddWinsSet)
-        ),
-        Ok(Code::Adds) | Err(_) => true,
-    }
+    let adds_alone = matches!(
+        Kind::try_from(a.kind),
+        Ok(Kind::EnableWinsFlag | Kind::AddWinsSet)
+    );
+    a.code != CLEARS && !(a.code == REMOVES && adds_alone)
 }
 
 // Whether a row is put for the arrival, in any kind: in kinds 3 and 4 none for the add of a value that has one.
@@ -65,16 +62,13 @@ fn puts_row(s: &[u32], size: usize, count: RowCount, a: Arrival, v: &[u32]) -> b
     ensures { result ≡ puts a.kind (operation_of a v.now) (table_of s.now).rows }
 {
     if table_kinds::is_counter(a.kind) {
-        return false;
+        false
+    } else if table_drop::is_kept(a.kind) {
+        let base = table_ranges::rows_at(size);
+        a.code != ADDS || !has_value(&s[base..], KEY + size, count, a, v)
+    } else {
+        gets_row(a)
     }
-    if table_drop::is_kept(a.kind) {
-        if a.code == ADDS {
-            let base = table_ranges::rows_at(size);
-            return !has_value(&s[base..], KEY + size, count, a, v);
-        }
-        return true;
-    }
-    gets_row(a)
 }
 
 // Whether there is room for the rows that the arrival leaves, its own among them: nothing is changed yet.
@@ -85,9 +79,10 @@ pub fn has_room(s: &[u32], size: usize, count: RowCount, a: Arrival, v: &[u32]) 
     let base = table_ranges::rows_at(size);
     let left = table_drop::count_left(&s[base..], KEY + size, count, a, v);
     if puts_row(s, size, count, a, v) {
-        return left.0 < s[CAPACITY_AT];
+        left.0 < s[CAPACITY_AT]
+    } else {
+        left.0 <= s[CAPACITY_AT]
     }
-    left.0 <= s[CAPACITY_AT]
 }
 
 // Puts the arrival's row with its tag.
@@ -136,10 +131,10 @@ fn arrive_rows(s: &mut [u32], size: usize, count: RowCount, a: Arrival, v: &[u32
     let left = table_change::drop_going(s, size, count, a, v);
     if gets {
         put_arrival(s, size, left, a, v);
-        let more = left.0 + 1;
-        return RowCount(more);
+        RowCount(left.0 + 1)
+    } else {
+        left
     }
-    left
 }
 
 // Changes the total of a counter; other kinds have none to change.

@@ -3,11 +3,9 @@ use Rattle.std.proofs.Common.{Result}
 use Rattle.words_tags.specs.declared.RowCount.{RowCount}
 use Rattle.line_put.specs.declared.TooShort.{TooShort}
 use mathlib.Core.Path.{◌≡◌, refl, sym, ap, ap₂, ◌∙◌}
-use mathlib.Core.List.{List, [], ◌∷◌}
+use mathlib.Core.List.{List}
 use Prim.Native.Nat.{ℕ}
 use Rattle.line_put.specs.Writing.{line_written}
-use Rattle.line_read.specs.Types.{refused}
-use Rattle.line_print.specs.Printed.{printed}
 use Rattle.line_decode.specs.declared.LineKind.{LineKind}
 use Rattle.line_decode.specs.declared.LineKind.TheVariants as kind
 use Rattle.call_question.specs.AnswerBytes.{refusal_bytes}

@@ -29,9 +29,8 @@ use Rattle.line_shape.proofs.Spelling.{length_written}
 use Rattle.line_put.specs.Writing.{line_bytes, line_written, written_each}
 use Rattle.line_put.proofs.Laying.{length_written_each}
 use Rattle.line_put.proofs.Whole.{length_hex_line}
-use Rattle.line_read.specs.Types.{refused, operation, head_of, longest_frame}
+use Rattle.line_read.specs.Types.{operation, head_of, longest_frame}
 use Rattle.line_read.specs.Named.{issue_read}
-use Rattle.line_print.specs.Printed.{printed}
 use Rattle.line_decode.specs.Decoding.{bytes_of}
 use Rattle.call_question.specs.AnswerBytes.{refusal_bytes, longest_answer_bytes}
 use Rattle.call_question.proofs.Short.{refusal_long}

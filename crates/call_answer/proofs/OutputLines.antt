@@ -1,5 +1,5 @@
 -- Output lines: one that was written, and a refusal's.
-use Rattle.std.proofs.Common.{Result, Ok, Err, Option, Some, None}
+use Rattle.std.proofs.Common.{Result, Ok, Err, Option, None}
 use Rattle.line_put.specs.declared.TooShort.{TooShort}
 use Rattle.std.specs.Result.{result_ok}
 use mathlib.Core.Path.{◌≡◌, refl, sym, ap, ◌∙◌}

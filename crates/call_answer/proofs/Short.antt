@@ -15,7 +15,7 @@ use Rattle.table_rules.specs.Checked.{Checked}
 use Rattle.line_hex.specs.Choice.{pick}
 use Rattle.line_shape.specs.Shapes.{length_of}
 use Rattle.line_read.specs.Types.{count, done}
-use Rattle.line_read.specs.Named.{opening_read, question_read}
+use Rattle.line_read.specs.Named.{question_read}
 use Rattle.line_read.proofs.Lengths.{line_length}
 use Rattle.line_decode.specs.Decoding.{bytes_of}
 use Rattle.line_decode.specs.declared.LineKind.{LineKind}

@@ -11,7 +11,7 @@ use Rattle.refusal_kind.specs.Asking.{asked_from}
 use Rattle.line_hex.specs.Choice.{pick}
 use Rattle.line_put.specs.Writing.{line_written}
 use Rattle.line_read.specs.Types.{count, done, line_of, longest_frame}
-use Rattle.line_read.specs.Named.{issue_read, opening_read, question_read}
+use Rattle.line_read.specs.Named.{issue_read, question_read}
 use Rattle.line_decode.specs.Decoding.{bytes_of}
 use Rattle.line_decode.specs.declared.LineKind.{LineKind}
 use Rattle.line_decode.specs.declared.LineKind.TheVariants as kind

@@ -16,9 +16,8 @@ use Rattle.table_rules.proofs.Checking.{checked}
 use Rattle.line_hex.specs.Choice.{pick}
 use Rattle.line_put.specs.Writing.{line_written}
 use Rattle.line_put.proofs.Whole.{length_hex_line}
-use Rattle.line_read.specs.Types.{printing, refused}
+use Rattle.line_read.specs.Types.{printing}
 use Rattle.line_read.specs.Named.{printing_read}
-use Rattle.line_print.specs.Printed.{printed}
 use Rattle.call_question.specs.AnswerBytes.{refusal_bytes, longest_answer_bytes}
 use Rattle.form_write.specs.Forms.{formed_of, line_at, line_into, saved_form}
 use Rattle.form_write.proofs.Short.{Short, form_short}

@@ -5,11 +5,11 @@ use Rattle.arrival.proofs.arrive_rows.Goals as goal
 pub put_arrival-requires : goal.put_arrival-requires
 put_arrival-requires c = (search row_fits, search dropped_opened, search rules)
 
-pub overflow_add-more : goal.overflow_add-more
-overflow_add-more c = search left_fits
+pub overflow_add-result : goal.overflow_add-result
+overflow_add-result c = search left_fits
 
 pub returns-then-gets : goal.returns-then-gets
 returns-then-gets c = (search row_count, search row_put)
 
-pub returns : goal.returns
-returns c = (search none_count, search none_put)
+pub returns-else-gets : goal.returns-else-gets
+returns-else-gets c = (search none_count, search none_put)

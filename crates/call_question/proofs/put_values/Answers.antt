@@ -1,4 +1,3 @@
-use Rattle.std.proofs.Common.{arith}
 use Rattle.call_question.proofs.Values.{valuing_start, valuing_done, value_left, value_room, valuing_next}
 use borrow.Author.Rules.{rules}
 use Rattle.call_question.proofs.put_values.Goals as goal
