@@ -1,3 +1,4 @@
+pub mod Wrapping
 pub mod Changing
 pub mod Inserting
 pub mod Parts
