@@ -1,7 +1,7 @@
 -- An issued frame behind `00`.
 use Rattle.std.proofs.Common.{Result, Ok, Err}
 use Rattle.line_put.specs.declared.TooShort.{TooShort}
-use Rattle.line_read.specs.Named.{is_issue}
+use Rattle.line_read.specs.Named.{is_issue, issue_read}
 use mathlib.Core.Path.{◌≡◌, refl, sym, ap, ◌∙◌, subst}
 use mathlib.Core.Bool.{Bool, true, false, cond}
 use mathlib.Core.List.{List, [], ◌∷◌, ◌++◌, append-nil}
@@ -30,7 +30,6 @@ use Rattle.line_put.specs.Writing.{line_bytes, line_written, written_each}
 use Rattle.line_put.proofs.Laying.{length_written_each}
 use Rattle.line_put.proofs.Whole.{length_hex_line}
 use Rattle.line_read.specs.Types.{operation, head_of, longest_frame}
-use Rattle.line_read.specs.Named.{issue_read}
 use Rattle.line_decode.specs.Decoding.{bytes_of}
 use Rattle.call_question.specs.AnswerBytes.{refusal_bytes, longest_answer_bytes}
 use Rattle.call_question.proofs.Short.{refusal_long}

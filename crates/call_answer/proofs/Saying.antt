@@ -1,7 +1,7 @@
 -- The line of each answer, by the case that it is.
 use Rattle.std.proofs.Common.{Result, Ok, Err, Some, None}
 use Rattle.line_put.specs.declared.TooShort.{TooShort}
-use Rattle.line_read.specs.Named.{is_opening, is_question}
+use Rattle.line_read.specs.Named.{is_opening, is_question, question_read}
 use Rattle.std.specs.Bool.{if◌then◌else◌}
 use Rattle.call_checked.proofs.Shaped.{read_right, read_fields, read_wrong}
 use Rattle.refusal_number.specs.declared.Refusal.{Refusal}
@@ -18,7 +18,6 @@ use Rattle.line_hex.specs.Choice.{pick}
 use Rattle.line_put.specs.Writing.{line_written}
 use Rattle.line_read.specs.declared.Question.{Question}
 use Rattle.line_read.specs.Types.{count, done, refused}
-use Rattle.line_read.specs.Named.{question_read}
 use Rattle.line_print.specs.Printed.{printed}
 use Rattle.line_decode.specs.Decoding.{bytes_of}
 use Rattle.call_question.specs.AnswerBytes.{refusal_bytes, reply_bytes}

@@ -1,7 +1,7 @@
 -- No answer is longer than the longest list.
 use Rattle.std.proofs.Common.{Result, Ok, Err}
 use Rattle.words_tags.specs.declared.RowCount.{RowCount}
-use Rattle.line_read.specs.Named.{is_opening, is_question}
+use Rattle.line_read.specs.Named.{is_opening, is_question, question_read}
 use mathlib.Core.Path.{refl}
 use mathlib.Core.Bool.{Bool, true, false}
 use mathlib.Core.List.{List, [], ◌∷◌}
@@ -15,7 +15,6 @@ use Rattle.table_rules.specs.Checked.{Checked}
 use Rattle.line_hex.specs.Choice.{pick}
 use Rattle.line_shape.specs.Shapes.{length_of}
 use Rattle.line_read.specs.Types.{count, done}
-use Rattle.line_read.specs.Named.{question_read}
 use Rattle.line_read.proofs.Lengths.{line_length}
 use Rattle.line_decode.specs.Decoding.{bytes_of}
 use Rattle.line_decode.specs.declared.LineKind.{LineKind}

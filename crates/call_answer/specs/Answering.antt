@@ -1,9 +1,8 @@
 -- What the station program answers to a line at a table: the bytes of its one line, and the table space afterwards.
-use Rattle.std.specs.Prelude.{Result, Ok, Err}
+use Rattle.std.specs.Prelude.{Result, Ok, Err, List, [], ◌∷◌, ℕ, ◌+◌}
 use Rattle.words_tags.specs.declared.RowCount.{RowCount}
 use Rattle.line_put.specs.declared.TooShort.{TooShort}
-use Rattle.line_read.specs.Named.{is_issue, is_opening, is_question}
-use Rattle.std.specs.Prelude.{List, [], ◌∷◌, ℕ, ◌+◌}
+use Rattle.line_read.specs.Named.{is_issue, is_opening, is_question, issue_read, question_read}
 use Rattle.meaning.specs.Table.{most_rows}
 use Rattle.meaning.specs.Calls as meaning
 use Rattle.words_layout.specs.Layout.{rewritten, table_of}
@@ -11,7 +10,6 @@ use Rattle.refusal_kind.specs.Asking.{asked_from}
 use Rattle.line_hex.specs.Choice.{pick}
 use Rattle.line_put.specs.Writing.{line_written}
 use Rattle.line_read.specs.Types.{count, done, line_of, longest_frame}
-use Rattle.line_read.specs.Named.{issue_read, question_read}
 use Rattle.line_decode.specs.Decoding.{bytes_of}
 use Rattle.line_decode.specs.declared.LineKind.{LineKind}
 use Rattle.line_decode.specs.declared.LineKind.TheVariants as kind

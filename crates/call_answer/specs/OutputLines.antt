@@ -1,7 +1,6 @@
 -- Output lines, one at a time.
-use Rattle.std.specs.Prelude.{Result, Ok, Err, Option, Some, None}
+use Rattle.std.specs.Prelude.{Result, Ok, Err, Option, Some, None, List, [], ◌∷◌, ◌++◌, ℕ, zero, suc, drop, length}
 use Rattle.line_put.specs.declared.TooShort.{TooShort}
-use Rattle.std.specs.Prelude.{List, [], ◌∷◌, ◌++◌, ℕ, zero, suc, drop, length}
 use Rattle.line_hex.specs.Hex.{hex_line}
 
 -- How a line that was written is answered: the space of the station program is too short for no line, and the end stands for that.

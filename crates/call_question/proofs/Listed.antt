@@ -17,9 +17,8 @@ use Rattle.line_hex.specs.Putting.{put_at, end_at}
 use Rattle.line_shape.specs.Shapes.{length_of, written}
 use Rattle.line_read.specs.Types.{count, head_of}
 use Rattle.line_read.proofs.Known.{known}
-use Rattle.line_put.specs.Writing.{line_bytes, line_written, Writable, written_each}
+use Rattle.line_put.specs.Writing.{line_bytes, line_written, Writable, written_each, too_short}
 use Rattle.std.proofs.Common.{Ok, Err}
-use Rattle.line_put.specs.Writing.{too_short}
 use Rattle.line_put.proofs.Whole.{write_short, write_room, write_end, write_done}
 use Rattle.call_question.specs.AnswerBytes.{list_bytes}
 use Rattle.call_question.proofs.Values.{listed}

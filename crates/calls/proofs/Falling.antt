@@ -1,7 +1,7 @@
 -- The steps that a settling call reports are the fall in unsettled rows.
 use Rattle.std.proofs.Common.{Result, Err}
 use Rattle.words_tags.specs.declared.RowCount.{RowCount}
-use Rattle.line_read.specs.Named.{is_settling}
+use Rattle.line_read.specs.Named.{is_settling, settling_read}
 use mathlib.Core.Path.{◌≡◌, refl, sym, ap, ◌∙◌, subst}
 use mathlib.Core.Bool.{Bool, true, false}
 use mathlib.Core.List.{List}
@@ -19,7 +19,6 @@ use Rattle.table_rules.specs.Checked.{Checked}
 use Rattle.table_rules.proofs.Checking.{checked}
 use Rattle.arrival.proofs.Kept.{table_back}
 use Rattle.line_hex.specs.Choice.{pick}
-use Rattle.line_read.specs.Named.{settling_read}
 use Rattle.line_decode.specs.Decoding.{bytes_of}
 use Rattle.call_checked.specs.Called.{settled_as, settled_on}
 use Rattle.line_decode.proofs.Decoding.{decoded_bytes}

@@ -1,6 +1,5 @@
 -- What the station program prints for a line.
-use Rattle.std.specs.Prelude.{Option}
-use Rattle.std.specs.Prelude.{◌&&◌, List, [], ◌∷◌, ℕ, eqb}
+use Rattle.std.specs.Prelude.{Option, ◌&&◌, List, [], ◌∷◌, ℕ, eqb}
 use Rattle.words_layout.specs.Layout.{holds_table, table_of}
 use Rattle.line_hex.specs.Choice.{pick}
 use Rattle.line_read.specs.Types.{characters_of}

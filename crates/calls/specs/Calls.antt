@@ -1,9 +1,8 @@
 -- The calls: what each answers to a line over any space, and the space afterwards.
 use Rattle.question.specs.Told as reply
 use Rattle.question.specs.Told.{Told}
-use Rattle.std.specs.Prelude.{Result, Ok, Err}
+use Rattle.std.specs.Prelude.{Result, Ok, Err, ◌≡◌, List, ℕ, ◌+◌}
 use Rattle.words_tags.specs.declared.RowCount.{RowCount}
-use Rattle.std.specs.Prelude.{◌≡◌, List, ℕ, ◌+◌}
 use Rattle.meaning.specs.Rows.{unsettled_count}
 use Rattle.words_layout.specs.Layout.{holds_table, table_of}
 use Rattle.line_hex.specs.Choice.{pick}

@@ -1,6 +1,5 @@
 -- What the second program says of a form: "prints it again, or one `ff` line".
-use Rattle.std.specs.Prelude.{Result, Ok, Err, Option}
-use Rattle.std.specs.Prelude.{List, [], ◌∷◌, ℕ}
+use Rattle.std.specs.Prelude.{Result, Ok, Err, Option, List, [], ◌∷◌, ℕ}
 use Rattle.call_question.specs.AnswerBytes.{refusal_bytes}
 use Rattle.form_take.specs.declared.Loaded.{Loaded}
 use Rattle.form_take.specs.declared.Loaded.TheVariants as loaded

@@ -58,7 +58,7 @@ takes_heard s line buffer long n y h r x g = g ∙ ap (λ (b : List ℕ). taken_
 -- an opening lays a head of seven words
 abbrev Headed : Result (Unit {0}) ℕ × List ℕ → Type 0
 Headed (Err number, l) = Unit {0}
-Headed (Ok none, l) = 6 < length l
+Headed (Ok u, l) = 6 < length l
 
 fresh_headed : (table : Table) (rest : List ℕ) → 6 < length (words_of table ++ rest)
 unfolding words_of

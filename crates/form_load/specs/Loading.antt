@@ -1,6 +1,5 @@
 -- Loading: a saved form read a line at a time into a lent space. What each line gets, and the space afterwards.
-use Rattle.std.specs.Prelude.{Result, Ok, Err}
-use Rattle.std.specs.Prelude.{Bool, true, false, ◌&&◌, List, [], ◌∷◌, ℕ, zero, suc, ◌-◌, eqb, leb, get_or, length, set}
+use Rattle.std.specs.Prelude.{Result, Ok, Err, Bool, true, false, ◌&&◌, List, [], ◌∷◌, ℕ, zero, suc, ◌-◌, eqb, leb, get_or, length, set}
 use Rattle.meaning.specs.Tests.{between, every}
 use Rattle.meaning.specs.Table.{greatest_kind}
 use Rattle.words_layout.specs.Layout.{capacity_in, count_in, holds_table, objects_in, own_in, size_in, space_for, table_mark}
@@ -70,7 +69,7 @@ taken_as next.Nothing bytes words = spoilt words
 -- "A load begins with its opening line; if that gets 1 or 13 ... nothing is written."
 unfoldable pub begun : Result (Unit {0}) ℕ × List ℕ → Result Loaded ℕ × List ℕ
 begun (Err number, words) = (Err number, words)
-begun (Ok none, words) = (Ok loaded.Taken, set words 6 1)
+begun (Ok u, words) = (Ok loaded.Taken, set words 6 1)
 
 -- "or a saved line comes when no load is under way (15), nothing is written"; any other line is no opening (1).
 unfoldable pub first_as : LineKind → List ℕ → List ℕ → Result Loaded ℕ × List ℕ

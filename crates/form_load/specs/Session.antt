@@ -1,6 +1,5 @@
 -- The definition computed on lines written as texts: forms that load, and for each rule that a line can break lines that break it, beside lines that keep it.
-use Rattle.std.specs.Prelude.{Result, Ok, Err}
-use Rattle.std.specs.Prelude.{◌≡◌, refl, List, [], ◌∷◌, ◌++◌, map, ℕ, pos, negsuc, length, replicate, take}
+use Rattle.std.specs.Prelude.{Result, Ok, Err, ◌≡◌, refl, List, [], ◌∷◌, ◌++◌, map, ℕ, pos, negsuc, length, replicate, take}
 use Prim.Native.String.{String}
 use Rattle.meaning.specs.Computing.{all_words}
 use Rattle.meaning.specs.Rows.{settled_row}

@@ -1,6 +1,5 @@
 -- A line of a saved form to a space under load: what it gets where it is the one that comes next, and the space afterwards.
-use Rattle.std.specs.Prelude.{Result, Ok, Err}
-use Rattle.std.specs.Prelude.{◌&&◌, List, [], ◌∷◌, ℕ, suc, ◌+◌, ◌-◌, ◌*◌, eqb, leb, get_or, length, replicate, set, take}
+use Rattle.std.specs.Prelude.{Result, Ok, Err, ◌&&◌, List, [], ◌∷◌, ℕ, suc, ◌+◌, ◌-◌, ◌*◌, eqb, leb, get_or, length, replicate, set, take}
 use Rattle.std.proofs.Math.Seq.{paste}
 use Rattle.meaning.specs.Table.{total_bound, greatest_size, most_objects}
 use Rattle.words_layout.specs.Layout.{clock_at, count_in, holds_table, last_at, own_in, size_in, total_of_words, totals_at}

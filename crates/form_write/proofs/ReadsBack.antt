@@ -17,7 +17,7 @@ use Rattle.meaning.specs.Arrival.{gets_row}
 use Rattle.meaning.specs.Table.{Table, is_table, kind_in, last_rule, storable, zeros, greatest_size}
 use Rattle.meaning.proofs.Tests.{cases, and_left, and_right, or_cases}
 use Rattle.meaning.proofs.Vectors.{same_eq}
-use Rattle.meaning.proofs.TableFacts.{Facts, HeaderFacts, RowFacts, facts, header_facts}
+use Rattle.meaning.proofs.TableFacts.{Facts, HeaderFacts, RowFacts, facts, header_facts, row_small}
 use Rattle.words_layout.specs.Words as words
 use Rattle.words_layout.specs.Words.{complement, word_limit}
 use Rattle.words_layout.proofs.Whole.{length_padded}
@@ -28,7 +28,6 @@ use Rattle.line_read.proofs.Taken.{opening_reads_back, opening_kinds_read_back}
 use Rattle.line_read.specs.SavedNamed.{clock_read, last_read, total_read, row_read, closing_read, is_clock, is_closing, is_last, is_row, is_total}
 use Rattle.line_read.proofs.SavedNamed.{clock_reads_back, last_reads_back, total_reads_back, row_reads_back, closing_reads_back}
 use Rattle.form_lines.specs.FormLines.{opening_line, clock_line, last_line, total_line, row_line, closing_line}
-use Rattle.meaning.proofs.TableFacts.{row_small}
 use Rattle.words_layout.proofs.Changing.{code_fits}
 
 -- every entry of a list is below a limit; what is behind its end is 0

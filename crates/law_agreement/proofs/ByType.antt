@@ -1,7 +1,7 @@
 -- The station program's answer to a line of each type is what the call of that type answers.
 use Rattle.question.specs.Told as reply
 use Rattle.std.proofs.Common.{Result, Ok, Err, Option, Some, None}
-use Rattle.line_read.specs.Named.{is_opening, is_operation, is_issue, is_settling, is_question}
+use Rattle.line_read.specs.Named.{is_opening, is_operation, is_issue, is_settling, is_question, issue_read, opening_read, operation_read, printing_read, question_read, settling_read}
 use mathlib.Core.Path.{◌≡◌, refl, sym, ap, ◌∙◌}
 use mathlib.Core.Logic.{◌≢◌}
 use mathlib.Core.Bool.{Bool, true, false, cond, false≢true}
@@ -28,7 +28,6 @@ use Rattle.line_hex.specs.Numbers.{big_endian}
 use Rattle.line_shape.specs.Shapes.{written}
 use Rattle.line_put.specs.Writing.{line_bytes, line_written}
 use Rattle.line_read.specs.Types.{issue, opening, operation, printing, question, settling, longest_frame}
-use Rattle.line_read.specs.Named.{issue_read, opening_read, operation_read, printing_read, question_read, settling_read}
 use Rattle.call_question.specs.AnswerBytes.{list_bytes, refusal_bytes, reply_bytes}
 use Rattle.call_checked.specs.Called.{frame_bytes, frame_of, framed_as, header_read, issued_as, issued_on, local_of, opened_as, opened_by, received_as, received_on, replied_on, settled_as, settled_on}
 use Rattle.call_answer.specs.Answering.{answer_on, changing, issue_answer, issued_bytes, outcome_bytes, question_answer, second_opening, settled_bytes, frame_room}

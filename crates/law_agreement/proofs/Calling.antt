@@ -1,7 +1,7 @@
 -- Any calls, with any lines, one after the other over a space that was opened: what the space holds is what the meaning reaches.
 use Rattle.question.specs.Told as reply
 use Rattle.std.proofs.Common.{Result, Ok, Err}
-use Rattle.line_read.specs.Named.{is_opening, is_operation, is_issue, is_settling, is_question}
+use Rattle.line_read.specs.Named.{is_opening, is_operation, is_issue, is_settling, is_question, issue_read, opening_read, operation_read, question_read, settling_read}
 use mathlib.Core.Path.{◌≡◌, refl, sym, ap, ap₂, ◌∙◌, subst}
 use mathlib.Core.Bool.{Bool, true, false, ◌&&◌, false≢true}
 use mathlib.Core.List.{List, [], ◌∷◌, ◌++◌, map}
@@ -34,7 +34,6 @@ use Rattle.arrival.proofs.Kept.{table_back, table_held, laid_back, laid_held}
 use Rattle.line_hex.specs.Choice.{pick}
 use Rattle.line_hex.specs.Hex.{hex_line}
 use Rattle.line_put.specs.Writing.{line_written}
-use Rattle.line_read.specs.Named.{issue_read, opening_read, operation_read, question_read, settling_read}
 use Rattle.line_decode.specs.Decoding.{bytes_of}
 use Rattle.calls.specs.Calls as calls
 use Rattle.call_checked.specs.Called.{frame_bytes, frame_of, framed_as, header_read, issued_as, issued_on, local_of, opened_as, opened_by, replied_on, received_as, received_on, settled_as, settled_on}
@@ -189,7 +188,7 @@ module _ (header : Header) (ranged : in_range header ≡ true) (events : List Ev
 -- an opening that is taken
 is_fresh : Result (Unit {0}) ℕ → Bool
 is_fresh (Err number) = false
-is_fresh (Ok tt) = true
+is_fresh (Ok u) = true
 
 module _ (line before words : List ℕ) (e : opened_by line before ≡ (Ok tt, words)) where
   abbrev header : Header
@@ -243,7 +242,7 @@ module _ (line before words : List ℕ) (e : opened_by line before ≡ (Ok tt, w
     holds_reached = calls_hold list words (reached header []) opened_holds
 
     -- every question that is answered gets what the definitions say over all operations accepted so far, whatever settling came between
-    pub every_answer : (question out : List ℕ) → (is_question (bytes_of question)) ≡ true →
+    pub every_answer : (question out : List ℕ) → is_question (bytes_of question) ≡ true →
         let asked = question_read (bytes_of question) in
         replied_by question now_words out ≡ replied (meant header station.accepted (length out) (asked_from asked.object asked.question asked.value)) out
     unfolding replied_by replied_on
@@ -255,7 +254,7 @@ module _ (line before words : List ℕ) (e : opened_by line before ≡ (Ok tt, w
 
 -- two spaces, each opened and used by any calls, whose stations have the same objects and have accepted the same operations
 module _ (line before words : List ℕ) (e : opened_by line before ≡ (Ok tt, words)) (list : List Call)
-    (line' before' words' : List ℕ) (e' : opened_by line' before' ≡ ((Ok tt), words')) (list' : List Call)
+    (line' before' words' : List ℕ) (e' : opened_by line' before' ≡ (Ok tt, words')) (list' : List Call)
     (objects : (header_read (bytes_of line)).kinds ≡ (header_read (bytes_of line')).kinds)
     (to : Within (station line before words e list).accepted (station line' before' words' e' list').accepted)
     (from : Within (station line' before' words' e' list').accepted (station line before words e list).accepted) where

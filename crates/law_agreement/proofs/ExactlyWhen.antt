@@ -3,7 +3,7 @@ use Rattle.question.specs.Told as reply
 use Rattle.question.specs.Told.{Told}
 use Rattle.std.proofs.Common.{Result, Err, Option}
 use Rattle.words_tags.specs.declared.RowCount.{RowCount}
-use Rattle.line_read.specs.Named.{is_opening, is_operation, is_issue, is_settling, is_question}
+use Rattle.line_read.specs.Named.{is_opening, is_operation, is_issue, is_settling, is_question, stations_of, issue_read, opening_read, operation_read, printing_read, question_read, settling_read}
 use mathlib.Core.Path.{◌≡◌, refl, sym, ap, ◌∙◌}
 use mathlib.Core.Bool.{Bool, true, false, not, ◌&&◌, ◌||◌, cond, false≢true}
 use mathlib.Core.Logic.{◌≢◌, ◌↔◌}
@@ -31,7 +31,6 @@ use Rattle.line_hex.specs.Choice.{pick}
 use Rattle.line_hex.specs.Hex.{hex_line}
 use Rattle.line_put.specs.Writing.{line_written}
 use Rattle.line_read.specs.Types.{operation}
-use Rattle.line_read.specs.Named.{stations_of, issue_read, opening_read, operation_read, printing_read, question_read, settling_read}
 use Rattle.line_decode.specs.Decoding.{bytes_of}
 use Rattle.form_write.specs.Forms.{line_at, saved_form}
 use Rattle.form_write.proofs.Lines.{line_none, line_there, line_too_short}
@@ -39,7 +38,7 @@ use Rattle.form_save.specs.Saving.{saved_as, saved_by, saved_on}
 use Rattle.calls.specs.Calls as calls
 use Rattle.call_checked.specs.Called.{frame_bytes, frame_of, framed_as, header_read, issued_as, issued_on, local_of, opened_as, opened_by, received_as, received_on, replied_on, settled_as, settled_on}
 use Rattle.calls.specs.Calls.{received_by, replied_by, settled_by}
-use Rattle.law_agreement.specs.Conditions.{is_line_of, open_conditions, receive_conditions, issue_conditions, settle_conditions, ask_conditions, save_conditions, number_of_opened, number_of_received, number_of_issued, number_of_settled, number_of_saved, ask_refusal, open_result, receive_result, issue_result, settle_result, ask_result, save_result}
+use Rattle.law_agreement.specs.Conditions.{is_line_of, open_conditions, receive_conditions, issue_conditions, settle_conditions, ask_conditions, save_conditions, number_in, ask_refusal, open_result, receive_result, issue_result, settle_result, ask_result, save_result}
 use Rattle.line_decode.proofs.Decoding.{decoded_bytes}
 use Rattle.call_checked.proofs.Settling.{limit_read}
 use Rattle.law_agreement.proofs.Shaping.{opening_shaped, operation_shaped, issue_shaped, settling_shaped, question_shaped, printing_shaped, frame_shaped}
@@ -300,27 +299,27 @@ module _ (line words : List ℕ) (place : ℕ) (out : List ℕ) where
       by true x f = f
       by false x f = refl
 
-  save_number : number_of_saved (save_result words place out).0 ≡ 0
-  unfolding save_result number_of_saved
+  save_number : number_in (save_result words place out).0 ≡ 0
+  unfolding save_result number_in
   save_number = cases (ltb place (length form)) (λ q. rw q refl) (λ q. rw q refl)
 
 -- Each call: "Given exactly when", in "the order they are tried".
 pub record EachCall : Type 0 where
-  pub opening : (line words : List ℕ) → Exactly number_of_opened Err (1 ∷ 13 ∷ []) (open_conditions line words) words (open_result line words) (opened_by line words)
-  pub frame : (line words : List ℕ) → Exactly number_of_received Err (14 ∷ 1 ∷ 2 ∷ 3 ∷ 4 ∷ 5 ∷ 6 ∷ 7 ∷ 8 ∷ []) (receive_conditions line words) words (receive_result line words) (received_by line words)
-  pub local : (line words out : List ℕ) → Exactly number_of_issued Err (14 ∷ 1 ∷ 3 ∷ 4 ∷ 9 ∷ 8 ∷ 10 ∷ []) (issue_conditions line words out) (words, out) (issue_result line words out) (calls.issued_by line words out)
-  pub settling : (line words : List ℕ) → Exactly number_of_settled Err (14 ∷ 1 ∷ []) (settle_conditions line words) words (settle_result line words) (settled_by line words)
+  pub opening : (line words : List ℕ) → Exactly number_in Err (1 ∷ 13 ∷ []) (open_conditions line words) words (open_result line words) (opened_by line words)
+  pub frame : (line words : List ℕ) → Exactly number_in Err (14 ∷ 1 ∷ 2 ∷ 3 ∷ 4 ∷ 5 ∷ 6 ∷ 7 ∷ 8 ∷ []) (receive_conditions line words) words (receive_result line words) (received_by line words)
+  pub local : (line words out : List ℕ) → Exactly number_in Err (14 ∷ 1 ∷ 3 ∷ 4 ∷ 9 ∷ 8 ∷ 10 ∷ []) (issue_conditions line words out) (words, out) (issue_result line words out) (calls.issued_by line words out)
+  pub settling : (line words : List ℕ) → Exactly number_in Err (14 ∷ 1 ∷ []) (settle_conditions line words) words (settle_result line words) (settled_by line words)
   pub question : (line words out : List ℕ) → Exactly number_of (ask_refusal line words) (14 ∷ 1 ∷ 3 ∷ 12 ∷ 11 ∷ []) (ask_conditions line words out) out (ask_result line words out) (replied_by line words out)
-  pub saving : (line words : List ℕ) (place : ℕ) (out : List ℕ) → Exactly number_of_saved Err (14 ∷ 1 ∷ 10 ∷ []) (save_conditions line words place out) out (save_result words place out) (saved_by line words place out)
+  pub saving : (line words : List ℕ) (place : ℕ) (out : List ℕ) → Exactly number_in Err (14 ∷ 1 ∷ 10 ∷ []) (save_conditions line words place out) out (save_result words place out) (saved_by line words place out)
 
 -- "Bad input gets exactly the refusal number that document 01 gives, in 01's order and only then, and a refusal changes no byte".
 pub exactly_when : EachCall
-unfolding number_of_opened number_of_received number_of_issued number_of_settled number_of_saved open_conditions receive_conditions issue_conditions settle_conditions ask_conditions save_conditions open_result receive_result issue_result settle_result
+unfolding number_in open_conditions receive_conditions issue_conditions settle_conditions ask_conditions save_conditions open_result receive_result issue_result settle_result
 exactly_when = record {
-  opening = λ line words. exactly number_of_opened Err (open_conditions line words) words (open_result line words) (opened_by line words) (λ n. refl) refl (open_told line words) refl;
-  frame = λ line words. exactly number_of_received Err (receive_conditions line words) words (receive_result line words) (received_by line words) (λ n. refl) refl (receive_told line words) refl;
-  local = λ line words out. exactly number_of_issued Err (issue_conditions line words out) (words, out) (issue_result line words out) (calls.issued_by line words out) (λ n. refl) refl (issue_told line words out) refl;
-  settling = λ line words. exactly number_of_settled Err (settle_conditions line words) words (settle_result line words) (settled_by line words) (λ n. refl) refl (settle_told line words) refl;
+  opening = λ line words. exactly number_in Err (open_conditions line words) words (open_result line words) (opened_by line words) (λ n. refl) refl (open_told line words) refl;
+  frame = λ line words. exactly number_in Err (receive_conditions line words) words (receive_result line words) (received_by line words) (λ n. refl) refl (receive_told line words) refl;
+  local = λ line words out. exactly number_in Err (issue_conditions line words out) (words, out) (issue_result line words out) (calls.issued_by line words out) (λ n. refl) refl (issue_told line words out) refl;
+  settling = λ line words. exactly number_in Err (settle_conditions line words) words (settle_result line words) (settled_by line words) (λ n. refl) refl (settle_told line words) refl;
   question = λ line words out. exactly number_of (ask_refusal line words) (ask_conditions line words out) out (ask_result line words out) (replied_by line words out) (reply_number line words out) (ask_number line words out) (ask_told line words out) refl;
-  saving = λ line words place out. exactly number_of_saved Err (save_conditions line words place out) out (save_result words place out) (saved_by line words place out) (λ n. refl) (save_number line words place out) (save_told line words place out) refl;
+  saving = λ line words place out. exactly number_in Err (save_conditions line words place out) out (save_result words place out) (saved_by line words place out) (λ n. refl) (save_number line words place out) (save_told line words place out) refl;
 }

@@ -1,6 +1,6 @@
 -- The line that `issue` writes says the operation that the table accepted, and another table that hears it hears that operation.
 use Rattle.std.proofs.Common.{Result, Ok, Err}
-use Rattle.line_read.specs.Named.{is_operation}
+use Rattle.line_read.specs.Named.{is_operation, issue_read, operation_read}
 use mathlib.Core.Path.{◌≡◌, refl, sym, ap, ◌∙◌, subst}
 use mathlib.Core.Bool.{Bool, true, false, cond}
 use mathlib.Core.List.{List, ◌∷◌, ◌++◌}
@@ -28,7 +28,6 @@ use Rattle.line_shape.specs.Reading.{fields_read, has_shape, is_shaped, padded}
 use Rattle.line_shape.specs.Shapes.{Fitting, read, length_of}
 use Rattle.line_read.specs.declared.Operation as lines
 use Rattle.line_read.specs.Types.{line_read, operation, shape_of, longest}
-use Rattle.line_read.specs.Named.{issue_read, operation_read}
 use Rattle.line_read.proofs.Longest.{operation_at_most_longest}
 use Rattle.line_read.proofs.Named.{operation_reads_back}
 use Rattle.line_read.proofs.Spelling.{all_bytes_line_of}
@@ -38,7 +37,7 @@ use Rattle.form_write.proofs.ReadsBack.{below_every, fit_each}
 use Rattle.calls.specs.Calls as calls
 use Rattle.call_checked.specs.Called.{frame_bytes, frame_of, local_of, received_as, received_on}
 use Rattle.calls.specs.Calls.{received_by}
-use Rattle.law_agreement.specs.Conditions.{issue_conditions, issue_result, number_of_issued}
+use Rattle.law_agreement.specs.Conditions.{issue_conditions, issue_result, number_in}
 use Rattle.line_hex.proofs.Picking.{picked}
 use Rattle.law_agreement.proofs.Shaping.{one_byte, four_bytes}
 use Rattle.law_agreement.proofs.ExactlyWhen.{exactly_when}
@@ -103,7 +102,7 @@ pub record Says (words words' : List ℕ) (local : Local) (characters : List ℕ
   pub table_after : Table
   pub accepted : meaning.issue (table_of words) local ≡ meaning.Outcome.accepted issued_one table_after
   pub space_after_lem : words' ≡ rewritten words table_after
-  pub shaped : (is_operation (bytes_of characters)) ≡ true
+  pub shaped : is_operation (bytes_of characters) ≡ true
   pub frame : frame_of (operation_read (bytes_of characters)) ≡ record { size = (table_of words).header.size; operation = issued_one }
   -- another table that hears this line is offered this operation
   pub heard : (other : List ℕ) → holds_table other ≡ true → received_by characters other ≡ received_as other (meaning.receive (table_of other) (record { size = (table_of words).header.size; operation = issued_one }))
@@ -116,7 +115,7 @@ module _ (words : List ℕ) (K : Checked words) (local : Local) (ok : refusal_of
   unfolding meaning.issue outcome
   accepts = rw ok refl
 
-  shaped_line : (is_operation (bytes_of characters)) ≡ true
+  shaped_line : is_operation (bytes_of characters) ≡ true
   shaped_line = ap (λ (l : List ℕ). (is_operation l)) e ∙ reads_ok words K local ok narrow
 
   frame_line : frame_of (operation_read (bytes_of characters)) ≡ sent words K local ok narrow
@@ -147,9 +146,9 @@ module _ (line words out : List ℕ) (n : ℕ) (words' out' : List ℕ) (e : cal
   abbrev bytes : List ℕ
   bytes = frame_bytes (issued_by (table_of words) local)
 
-  no_number : number_of_issued (calls.issued_by line words out).0 ≡ 0
-  unfolding number_of_issued
-  no_number = ap (λ (p : Result ℕ ℕ × (List ℕ × List ℕ)). number_of_issued p.0) e
+  no_number : number_in (calls.issued_by line words out).0 ≡ 0
+  unfolding number_in
+  no_number = ap (λ (p : Result ℕ ℕ × (List ℕ × List ℕ)). number_in p.0) e
 
   none : (i : ℕ) → i < 7 → given_at (issue_conditions line words out) i ≡ false
   unfolding issue_conditions

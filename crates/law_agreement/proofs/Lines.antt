@@ -2,7 +2,7 @@
 use Rattle.std.proofs.Common.{Result, Ok, Err}
 use Rattle.words_tags.specs.declared.RowCount.{RowCount}
 use Rattle.line_put.specs.declared.TooShort.{TooShort}
-use Rattle.line_read.specs.Named.{is_opening, is_operation, is_issue, is_settling, is_question}
+use Rattle.line_read.specs.Named.{is_opening, is_operation, is_issue, is_settling, is_question, issue_read, opening_read, operation_read, question_read, settling_read}
 use mathlib.Core.Path.{◌≡◌, refl, sym, ap, ◌∙◌, subst}
 use mathlib.Core.Bool.{Bool, true, false, not, ◌&&◌, false≢true}
 use mathlib.Core.List.{List, [], ◌∷◌, ◌++◌, append-nil, append_assoc}
@@ -32,7 +32,6 @@ use Rattle.line_hex.specs.Putting.{put_at}
 use Rattle.line_shape.specs.Shapes.{written}
 use Rattle.line_put.specs.Writing.{line_written, line_bytes}
 use Rattle.line_read.specs.Types.{question, refused, longest_frame}
-use Rattle.line_read.specs.Named.{issue_read, opening_read, operation_read, question_read, settling_read}
 use Rattle.line_print.specs.Printed.{printed}
 use Rattle.call_question.specs.AnswerBytes.{list_bytes, refusal_bytes, reply_bytes}
 use Rattle.call_question.proofs.Told.{chain, never_long}
@@ -266,16 +265,16 @@ module _ (line before words : List ℕ) (O : OpenedBy line before words) where
   not_done : (bytes after : List ℕ) → is_done bytes ≡ false → ◌≡◌ {A = List ℕ × List ℕ} (bytes, after) (done_bytes, words) → ⊥
   not_done bytes after f e = false≢true (sym f ∙ ap (λ (q : List ℕ × List ℕ). is_done q.0) e ∙ done_is_done)
 
-  by_opened : (r : Result (Unit {0}) ℕ) (x : List ℕ) → ◌≡◌ {A = List ℕ × List ℕ} (outcome_bytes r, x) (done_bytes, words) → ◌≡◌ {A = Result (Unit {0}) ℕ × List ℕ} (r, x) ((Ok tt), words)
+  by_opened : (r : Result (Unit {0}) ℕ) (x : List ℕ) → ◌≡◌ {A = List ℕ × List ℕ} (outcome_bytes r, x) (done_bytes, words) → ◌≡◌ {A = Result (Unit {0}) ℕ × List ℕ} (r, x) (Ok tt, words)
   unfolding outcome_bytes
   by_opened (Err number) x e = absurd (not_done (refusal_bytes number) x (refusal_not_done number) e)
-  by_opened (Ok tt) x e = ap (λ (q : List ℕ × List ℕ). ((Ok tt), q.1)) e
+  by_opened (Ok tt) x e = ap (λ (q : List ℕ × List ℕ). (Ok tt, q.1)) e
 
-  pub opened_fresh : opened_by line before ≡ ((Ok tt), words)
+  pub opened_fresh : opened_by line before ≡ (Ok tt, words)
   unfolding answer_of answer_on first_answer kind_of second_opening
   opened_fresh = by (holds_table before) (subst (λ (type : ℕ). pick (holds_table before) (answer_on (kind_of type) line before) (first_answer (kind_of type) line before) ≡ (done_bytes, words)) O.is_opening O.answered)
     where
-      by : (b : Bool) → pick {A = List ℕ × List ℕ} b (second_opening line, before) (outcome_bytes (opened_by line before).0, (opened_by line before).1) ≡ (done_bytes, words) → opened_by line before ≡ ((Ok tt), words)
+      by : (b : Bool) → pick {A = List ℕ × List ℕ} b (second_opening line, before) (outcome_bytes (opened_by line before).0, (opened_by line before).1) ≡ (done_bytes, words) → opened_by line before ≡ (Ok tt, words)
       by true e = absurd (not_done (second_opening line) before (refusal_not_done (pick (is_opening (bytes_of line)) 13 1)) e)
       by false e = by_opened (opened_by line before).0 (opened_by line before).1 e
 

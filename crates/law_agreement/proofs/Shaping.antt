@@ -1,5 +1,5 @@
 -- What a reader finds right is a line of its type and length, and the other way.
-use Rattle.line_read.specs.Named.{is_opening, is_operation, is_issue, is_settling, is_question}
+use Rattle.line_read.specs.Named.{is_opening, is_operation, is_issue, is_settling, is_question, count_of, stations_of, opening_of, issue_read, opening_read, operation_read, printing_read, question_read, settling_read}
 use mathlib.Core.Path.{◌≡◌, refl, sym, ap, ◌∙◌}
 use mathlib.Core.Bool.{Bool, true, false, ◌&&◌}
 use mathlib.Core.List.{List, [], ◌∷◌, ◌++◌}
@@ -22,7 +22,6 @@ use Rattle.line_shape.specs.Shapes.{length_of, read}
 use Rattle.line_shape.specs.declared.Fields.{Fields}
 use Rattle.line_read.specs.Types as types
 use Rattle.line_read.specs.Types.{Line, head_of, is_of, line_read, opening, operation, issue, settling, question, printing, longest}
-use Rattle.line_read.specs.Named.{count_of, stations_of, opening_of, issue_read, opening_read, operation_read, printing_read, question_read, settling_read}
 use Rattle.line_read.proofs.Named.{operation_stations, operation_vector_length}
 use Rattle.line_decode.specs.Decoding.{bytes_of}
 use Rattle.call_checked.specs.Called.{frame_of}

@@ -2,9 +2,8 @@
 -- holds and that of no number before it does. Then the number of each answer, and what a call answers and leaves where it gives none.
 use Rattle.question.specs.Told as reply
 use Rattle.question.specs.Told.{Told}
-use Rattle.std.specs.Prelude.{Result, Ok, Err, Option, Some, None}
+use Rattle.std.specs.Prelude.{Result, Ok, Err, Option, Some, None, Bool, not, ◌&&◌, ◌||◌, cond, List, [], ◌∷◌, ◌++◌, ℕ, suc, leb, ltb, eqb, get_or, length, drop, set}
 use Rattle.words_tags.specs.declared.RowCount.{RowCount}
-use Rattle.std.specs.Prelude.{Bool, not, ◌&&◌, ◌||◌, cond, List, [], ◌∷◌, ◌++◌, ℕ, suc, leb, ltb, eqb, get_or, length, drop, set}
 use Rattle.meaning.specs.Order.{entry_limit, at_most}
 use Rattle.meaning.specs.Operations.{number_of}
 use Rattle.meaning.specs.Table as tables
@@ -96,26 +95,9 @@ save_conditions line words place out =
     ∷ []
 
 -- The number of an answer, 0 where it is no refusal. A question's is `question`'s own.
-unfoldable pub number_of_opened : Result (Unit {0}) ℕ → ℕ
-number_of_opened (Err number) = number
-number_of_opened (Ok tt) = 0
-
-unfoldable pub number_of_received : Result (Unit {0}) ℕ → ℕ
-number_of_received (Err number) = number
-number_of_received (Ok tt) = 0
-
-unfoldable pub number_of_issued : Result ℕ ℕ → ℕ
-number_of_issued (Err number) = number
-number_of_issued (Ok length) = 0
-
-unfoldable pub number_of_settled : Result RowCount ℕ → ℕ
-number_of_settled (Err number) = number
-number_of_settled (Ok count) = 0
-
-unfoldable pub number_of_saved : Result (Option ℕ) ℕ → ℕ
-number_of_saved (Err number) = number
-number_of_saved (Ok (Some length)) = 0
-number_of_saved (Ok None) = 0
+unfoldable pub number_in : {A : Type 0} → Result A ℕ → ℕ
+number_in (Err number) = number
+number_in (Ok answer) = 0
 
 -- "11 also the count": what a question is told by its number.
 unfoldable pub ask_refusal : List ℕ → List ℕ → ℕ → Told
@@ -127,14 +109,14 @@ ask_refusal line words number =
 unfoldable pub open_result : List ℕ → List ℕ → Result (Unit {0}) ℕ × List ℕ
 open_result line words =
     let header = header_read (bytes_of line) in
-    ((Ok tt), words_of (tables.opened header) ++ drop (space_for header.size header.capacity) words)
+    (Ok tt, words_of (tables.opened header) ++ drop (space_for header.size header.capacity) words)
 
 -- A frame: the table after its arrival, and L with its vector.
 unfoldable pub receive_result : List ℕ → List ℕ → Result (Unit {0}) ℕ × List ℕ
 receive_result line words =
     let table = table_of words in
     let u = (frame_of (operation_read (bytes_of line))).operation in
-    ((Ok tt), rewritten words (after_arrival table u (set table.last u.sender u.vector)))
+    (Ok tt, rewritten words (after_arrival table u (set table.last u.sender u.vector)))
 
 -- A local operation: its frame's line, and the table after its arrival.
 unfoldable pub issue_result : List ℕ → List ℕ → List ℕ → Result ℕ ℕ × (List ℕ × List ℕ)
@@ -162,4 +144,4 @@ unfoldable pub save_result : List ℕ → ℕ → List ℕ → Result (Option �
 save_result words place out =
     let form = saved_form (table_of words) in
     let spelt = hex_line (get_or form place []) in
-    cond (ltb place (length form)) (Ok (Some (length spelt)), spelt ++ drop (length spelt) out) ((Ok None), out)
+    cond (ltb place (length form)) (Ok (Some (length spelt)), spelt ++ drop (length spelt) out) (Ok None, out)

@@ -1,8 +1,7 @@
 -- Lines given to the station program one after the other over one space: the space after them, and the operations that were accepted.
 use Rattle.question.specs.Told as reply
 use Rattle.question.specs.Told.{Told}
-use Rattle.std.specs.Prelude.{Result, Ok, Err, Option, Some, None}
-use Rattle.std.specs.Prelude.{◌≡◌, ◌≢◌, Bool, true, false, cond, List, [], ◌∷◌, ◌++◌, ℕ, eqb, length, take}
+use Rattle.std.specs.Prelude.{Result, Ok, Err, Option, Some, None, ◌≡◌, ◌≢◌, Bool, true, false, cond, List, [], ◌∷◌, ◌++◌, ℕ, eqb, length, take}
 use Rattle.meaning.specs.Operations as meant
 use Rattle.meaning.specs.Table.{Header, most_rows, zeros}
 use Rattle.meaning.specs.Refusals.{issued_by}
@@ -112,7 +111,7 @@ replied_answer (reply.Holds there, out) = line_of flag (cond there 1 0 ∷ []) [
 unfoldable pub saved_answer : List ℕ → ℕ → Result (Option ℕ) ℕ × List ℕ → Option ℕ × (List ℕ × List ℕ)
 saved_answer words place (Err number, out) = let told = printed_at (refusal_bytes number ∷ []) place out in (told.0, (words, told.1))
 saved_answer words place (Ok (Some characters), out) = (Some characters, (words, out))
-saved_answer words place ((Ok None), out) = (None, (words, out))
+saved_answer words place (Ok None, out) = (None, (words, out))
 
 -- The answer to a line of each type is what the call of that type answers: on any space, with room for every frame, every list and every line of a form.
 pub record ByType (line words : List ℕ) : Type 0 where

@@ -1,6 +1,5 @@
 -- The definitions computed: 01's session, and the lines that it has none of.
-use Rattle.std.specs.Prelude.{Option, Some, None}
-use Rattle.std.specs.Prelude.{◌≡◌, refl, List, [], ◌∷◌, map, ℕ, zero, suc, length, take}
+use Rattle.std.specs.Prelude.{Option, Some, None, ◌≡◌, refl, List, [], ◌∷◌, map, ℕ, zero, suc, length, take}
 use Prim.Native.String.{String}
 use Rattle.meaning.specs.Table.{kind_in, zeros}
 use Rattle.meaning.specs.Computing.{all_words}
@@ -15,7 +14,7 @@ use Rattle.line_shape.specs.Shapes.{length_of, read, written}
 use Rattle.line_shape.specs.Reading.{is_shaped, entries, fields_read, has_shape, padded, starts_with}
 use Rattle.line_put.specs.Writing.{line_bytes, written_each}
 use Rattle.line_read.specs.Types.{is_line_of, is_of, line_read}
-use Rattle.line_read.specs.Named.{is_opening, is_operation, is_issue, is_settling, is_question, issue_read, opening_read, operation_read, question_read, settling_read}
+use Rattle.line_read.specs.Named.{is_opening, is_operation, is_issue, is_settling, is_question, issue_read, opening_read, operation_read, question_read, settling_read, printing_read}
 use Rattle.line_decode.specs.Decoding.{bytes_of, type_of}
 use Rattle.line_decode.specs.LineKinds.{kind_of}
 use Rattle.line_decode.specs.Text.{characters, line_saying}
@@ -25,7 +24,6 @@ use Rattle.form_write.specs.Session.{session_form}
 use Rattle.call_question.specs.AnswerBytes.{list_bytes, refusal_bytes, reply_bytes}
 use Rattle.call_checked.specs.Called.{frame_bytes, frame_of, header_read, local_of, opened_as, opened_by, received_as, received_on, settled_as, settled_on}
 use Rattle.call_answer.specs.Answering.{answer_on, done_bytes, issue_answer, issued_bytes, outcome_bytes, question_answer, second_opening, settled_bytes}
-use Rattle.line_read.specs.Named.{printing_read}
 use Rattle.calls.specs.Answers.{answer_of, first_answer, answered_by, lines_for, longest_answer, space_after}
 use Rattle.call_answer.specs.OutputLines.{printed_at}
 use Rattle.law_agreement.specs.Lines.{lines_after}

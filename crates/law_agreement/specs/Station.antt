@@ -1,5 +1,5 @@
 -- Calls one after the other over one space, and the events that they are in the meaning.
-use Rattle.line_read.specs.Named.{is_operation, is_issue, is_settling}
+use Rattle.line_read.specs.Named.{is_operation, is_issue, is_settling, issue_read, operation_read, settling_read}
 use Rattle.std.specs.Prelude.{Bool, ◌&&◌, List, [], ◌∷◌, ◌++◌, ℕ, leb, length}
 use Rattle.meaning.specs.Refusals.{issued_by}
 use Rattle.meaning.specs.History as history
@@ -7,7 +7,6 @@ use Rattle.meaning.specs.History.{Event}
 use Rattle.words_layout.specs.Layout.{table_of}
 use Rattle.line_hex.specs.Choice.{pick}
 use Rattle.line_hex.specs.Hex.{hex_line}
-use Rattle.line_read.specs.Named.{issue_read, operation_read, settling_read}
 use Rattle.line_decode.specs.Decoding.{bytes_of}
 use Rattle.calls.specs.Calls as calls
 use Rattle.call_checked.specs.Called.{frame_bytes, frame_of, local_of}

@@ -13,7 +13,7 @@ use Rattle.call_checked.specs.Called.{frame_of, local_of}
 use Rattle.calls.specs.Answers.{answer_of}
 use Rattle.calls.specs.Calls as calls
 use Rattle.calls.specs.Calls.{received_by}
-use Rattle.law_agreement.specs.Conditions.{number_of_issued, number_of_received}
+use Rattle.law_agreement.specs.Conditions.{number_in}
 use Rattle.law_agreement.specs.Lines.{accepted_by}
 use Rattle.law_agreement.specs.Station.{Call, receives, issues, settles, words_after}
 
@@ -44,9 +44,9 @@ Fitting (restored space ∷ rest) words =
 -- The operation that a call brought, where it gives no refusal: that of a frame, or the one that is issued; settling brings none.
 unfoldable pub accepted_by_call : Call → List ℕ → List meant.Operation
 accepted_by_call (receives line) words =
-    pick (eqb (number_of_received (received_by line words).0) 0) ((frame_of (operation_read (bytes_of line))).operation ∷ []) []
+    pick (eqb (number_in (received_by line words).0) 0) ((frame_of (operation_read (bytes_of line))).operation ∷ []) []
 accepted_by_call (issues line out) words =
-    pick (eqb (number_of_issued (calls.issued_by line words out).0) 0) (issued_by (table_of words) (local_of (issue_read (bytes_of line))) ∷ []) []
+    pick (eqb (number_in (calls.issued_by line words out).0) 0) (issued_by (table_of words) (local_of (issue_read (bytes_of line))) ∷ []) []
 accepted_by_call (settles line) words = []
 
 -- All operations that were accepted, the latest first: loading brings none.

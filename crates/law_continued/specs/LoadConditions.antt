@@ -1,6 +1,5 @@
 -- When a line of a form is refused, and what it leaves where it is not.
-use Rattle.std.specs.Prelude.{Result, Ok, Err}
-use Rattle.std.specs.Prelude.{Bool, false, not, ◌&&◌, List, [], ◌∷◌, ℕ, ◌+◌, ◌*◌, eqb, leb, get_or, replicate, length, set, take}
+use Rattle.std.specs.Prelude.{Result, Ok, Err, Bool, false, not, ◌&&◌, List, [], ◌∷◌, ℕ, ◌+◌, ◌*◌, eqb, leb, get_or, replicate, length, set, take}
 use Rattle.meaning.specs.Table.{total_bound}
 use Rattle.meaning.specs.Refusals.{◌when◌, Refusal}
 use Rattle.words_layout.specs.Layout.{clock_at, count_in, holds_table, last_at, own_in, size_in, total_of_words, totals_at}

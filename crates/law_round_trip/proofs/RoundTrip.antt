@@ -14,7 +14,7 @@ use Rattle.meaning.specs.Table.{Header, Table, is_table, kind_in, opened, row_ru
 use Rattle.meaning.specs.Refusals.{opening_refusals}
 use Rattle.meaning.specs.Calls.{fresh, open_table}
 use Rattle.meaning.proofs.Tests.{and_left, and_right, rule_at_lem}
-use Rattle.meaning.proofs.TableFacts.{Facts, facts}
+use Rattle.meaning.proofs.TableFacts.{Facts, facts, row_small}
 use Rattle.words_layout.specs.Layout.{row_of, row_words, space_for, words_of}
 use Rattle.words_layout.proofs.Pieces.{Each, map_back}
 use Rattle.words_layout.proofs.RowWords.{Shaped, row_read_lem}
@@ -38,7 +38,6 @@ use Rattle.line_decode.specs.declared.LineKind.TheVariants as kind
 use Rattle.line_decode.proofs.Decoding.{bytes_back}
 use Rattle.line_read.specs.SavedNamed.{is_row}
 use Rattle.form_lines.specs.FormLines.{opening_line, clock_line, row_line, closing_line}
-use Rattle.meaning.proofs.TableFacts.{row_small}
 use Rattle.form_write.specs.Forms.{last_lines, row_lines, saved_form, total_lines}
 use Rattle.form_write.proofs.Short.{closing_short, opening_short, row_short}
 use Rattle.form_write.proofs.ReadsBack.{closing_back, kinds_back, opening_back, row_back, row_known}

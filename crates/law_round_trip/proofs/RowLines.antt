@@ -18,7 +18,7 @@ use Rattle.meaning.proofs.Tests.{cases}
 use Rattle.words_layout.specs.Words as words
 use Rattle.words_layout.specs.Words.{flat, pieces, word_limit}
 use Rattle.words_layout.specs.Layout.{words_of, front_words, rows_words, row_words, row_width, rows_at, count_in, holds_table}
-use Rattle.words_layout.proofs.Pieces.{pieces_at}
+use Rattle.words_layout.proofs.Pieces.{pieces_at, piece_at}
 use Rattle.words_layout.proofs.Whole.{length_front, length_padded, wide_rows}
 use Rattle.words_layout.proofs.Reading.{short}
 use Rattle.arrival.proofs.Kept.{laid_held}
@@ -29,7 +29,6 @@ use Rattle.line_read.specs.declared.Row as saved
 use Rattle.line_read.specs.declared.Closing.{Closing}
 use Rattle.line_read.specs.SavedNamed.{is_closing, closing_read, row_read, is_row}
 use Rattle.line_decode.specs.Decoding.{bytes_of}
-use Rattle.words_layout.proofs.Pieces.{piece_at}
 use Rattle.form_take.specs.declared.Loaded.TheVariants as loaded
 use Rattle.form_load.specs.declared.Next.TheVariants as next
 use Rattle.form_row.specs.Joining.{joined, joins, last_row, row_place, row_said}

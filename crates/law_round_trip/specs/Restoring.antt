@@ -1,6 +1,5 @@
 -- A form given to a space, line by line.
-use Rattle.std.specs.Prelude.{Ok}
-use Rattle.std.specs.Prelude.{◌≡◌, true, List, [], ◌∷◌, ◌++◌, map, ℕ, ◌≤◌, length, set}
+use Rattle.std.specs.Prelude.{Ok, ◌≡◌, true, List, [], ◌∷◌, ◌++◌, map, ℕ, ◌≤◌, length, set}
 use Rattle.meaning.specs.Table.{Table, is_table}
 use Rattle.words_layout.specs.Layout.{space_for}
 use Rattle.line_hex.specs.Hex.{hex_line}

@@ -27,7 +27,7 @@ line_written space bytes =
 -- the refusal number of an answer, 0 where there is none: 10 for a "line space shorter than the line"
 abbrev pub refusal_of : Result ℕ TooShort → ℕ
 refusal_of (Ok length) = 0
-refusal_of (Err none) = 10
+refusal_of (Err short) = 10
 
 -- no more numbers than a count of one byte can say
 abbrev pub Countable : List ℕ → Type 0

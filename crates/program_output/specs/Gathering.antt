@@ -1,6 +1,5 @@
 -- Output lines gathered in a space until they are written: all of them for a line to a station, and for a form that is at its end.
-use Rattle.std.specs.Prelude.{Option}
-use Rattle.std.specs.Prelude.{ℕ, ◌+◌, ◌-◌, ◌≤◌, List, [], ◌∷◌, ◌++◌, leb, drop, length, take}
+use Rattle.std.specs.Prelude.{Option, ℕ, ◌+◌, ◌-◌, ◌≤◌, List, [], ◌∷◌, ◌++◌, leb, drop, length, take}
 use Rattle.line_hex.specs.Choice.{pick}
 use Rattle.line_hex.specs.Hex.{hex_line}
 use Rattle.calls.specs.Answers.{answered_by, answer_of, lines_for, longest_answer}
