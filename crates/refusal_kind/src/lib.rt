@@ -2,7 +2,7 @@
 #![tactic(auto)]
 
 ghost use Rattle.std.specs.Prelude.{◌≡◌, ltb, length};
-ghost use Rattle.meaning.specs.Operations.{allowed, code_allowed, is_flag, value_allowed};
+ghost use Rattle.meaning.specs.Operations.{allowed, code_allowed, value_allowed};
 ghost use Rattle.meaning.specs.Questions.{fits};
 ghost use Rattle.meaning.specs.Refusals.{well_asked};
 ghost use Rattle.table_kinds.specs.Kinds.{code_number, kind_number};
@@ -64,14 +64,6 @@ pub fn is_declared(kinds: &[u32], object: u32) -> bool
     words_tags::wide(object) < kinds.len()
 }
 
-// Whether objects of this kind are flags, whose operations carry no value.
-#[tactic(auto, unfolding(meaning::specs::Operations::is_flag))]
-fn is_flag(kind: Kind) -> bool
-    ensures { result ≡ is_flag (kind_number kind) }
-{
-    matches!(kind, Kind::EnableWinsFlag | Kind::DisableWinsFlag)
-}
-
 // Whether a kind has this code: all kinds have adds, the grow-only ones and the register no removes, the last three clears.
 #[tactic(auto, unfolding(meaning::specs::Operations::code_allowed, meaning::specs::Operations::codes_of))]
 fn code_allowed(kind: Kind, code: Code) -> bool
@@ -97,7 +89,7 @@ fn value_allowed(kind: Kind, code: Code, value: Value) -> bool
 {
     if kind.is_counter() {
         (LEAST_AMOUNT..=meaning::GREATEST_AMOUNT).contains(&value.0)
-    } else if is_flag(kind) || code == Code::Clears {
+    } else if kind.is_flag() || code == Code::Clears {
         value.0 == NO_VALUE
     } else {
         true
@@ -122,9 +114,9 @@ pub fn is_fitted(question: u32, kind: u32) -> bool
 {
     match (Asks::try_from(question), Kind::try_from(kind)) {
         (Ok(Asks::Total), Ok(kind)) => kind.is_counter(),
-        (Ok(Asks::Flag), Ok(kind)) => is_flag(kind),
+        (Ok(Asks::Flag), Ok(kind)) => kind.is_flag(),
         (Ok(Asks::Total | Asks::Flag), Err(_)) => false,
-        (_, Ok(kind)) => !kind.is_counter() && !is_flag(kind),
+        (_, Ok(kind)) => !kind.is_counter() && !kind.is_flag(),
         (_, Err(_)) => true,
     }
 }

@@ -2,7 +2,7 @@
 #![tactic(auto)]
 
 ghost use Rattle.std.specs.Prelude.{◌≡◌, get_or};
-ghost use Rattle.meaning.specs.Operations.{is_counter, removes_stand};
+ghost use Rattle.meaning.specs.Operations.{is_counter, is_flag, removes_stand};
 ghost use Rattle.table_kinds.specs.Kinds.{CodeOf, KindOf, kind_number};
 
 use std::error::Error;
@@ -32,6 +32,14 @@ impl Kind {
         ensures { result ≡ is_counter (kind_number self) }
     {
         matches!(self, Kind::GrowCounter | Kind::UpDownCounter)
+    }
+
+    // Flags' operations carry no value.
+    #[tactic(auto, unfolding(meaning::specs::Operations::is_flag))]
+    pub fn is_flag(self) -> bool
+        ensures { result ≡ is_flag (kind_number self) }
+    {
+        matches!(self, Kind::EnableWinsFlag | Kind::DisableWinsFlag)
     }
 
     #[tactic(auto, unfolding(meaning::specs::Operations::removes_stand))]

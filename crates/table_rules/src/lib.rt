@@ -4,7 +4,7 @@
 
 ghost use Rattle.std.specs.Prelude.{◌≡◌, ◌≤◌, leb, length};
 ghost use Rattle.meaning.specs.Tests.{between, every};
-ghost use Rattle.words_layout.specs.Layout.{capacity_in, holds_table, rows_in, size_in, space_for, clock_at};
+ghost use Rattle.words_layout.specs.Layout.{capacity_in, holds_table, objects_in, rows_in, size_in, space_for, clock_at};
 ghost use Rattle.table_rules_rows.specs.RowTests.{rows_kept};
 ghost use Rattle.table_rules.specs.TableTests.{clock_in, head_kept, Headed, kinds_in, kinds_kept, lasts_kept, parts_kept, sizes_kept, totals_kept, unused_kept};
 ghost use Rattle.meaning.specs.Table.{greatest_size, greatest_capacity};
@@ -61,79 +61,111 @@ fn head_ok(s: &[u32]) -> bool
         && has_room(s)
 }
 
-// Whether the kinds are known ones, with zeros after them.
-fn kinds_ok(s: &[u32]) -> bool
-    requires { Headed s.now }
-    ensures { result ≡ kinds_kept s.now }
-{
-    let end = KINDS_AT + words_tags::wide(s[OBJECTS_AT]);
-    all_in_range(&s[KINDS_AT..end], 1, meaning::GREATEST_KIND)
-        && table_rules_rows::all_zero(&s[end..TOTALS_AT])
+// Lent words whose head is a table's, so that the parts behind it are where it says.
+#[derive(Clone, Copy)]
+struct HeadedWords<'a> {
+    words: &'a [u32],
+    ghost headed: { Headed words.now },
 }
 
-// Whether the totals are within the bound that the clock sets, with zeros after them.
-fn totals_ok(s: &[u32]) -> bool
-    requires { Headed s.now }
-    ensures { result ≡ totals_kept s.now }
-{
-    let objects = words_tags::wide(s[OBJECTS_AT]);
-    let kinds_end = KINDS_AT + objects;
-    let totals_end = TOTALS_AT + objects * TOTAL_WORDS;
-    let clock_end = CLOCK_AT + words_tags::wide(s[SIZE_AT]);
-    let bound = table_rules_clock::total_bound(&s[CLOCK_AT..clock_end]);
-    table_rules_clock::each_total_ok(&s[KINDS_AT..kinds_end], &s[TOTALS_AT..], bound)
-        && table_rules_rows::all_zero(&s[totals_end..CLOCK_AT])
-}
+impl<'a> HeadedWords<'a> {
+    // How many stations the group has.
+    fn size(&self) -> usize
+        ensures { result ≡ size_in self.now.words.now }
+    {
+        words_tags::wide(self.words[SIZE_AT])
+    }
 
-// Whether the vectors of the last frames accepted are what the clock allows.
-fn lasts_ok(s: &[u32]) -> bool
-    requires { Headed s.now }
-    ensures { result ≡ lasts_kept s.now }
-{
-    let clock_end = CLOCK_AT + words_tags::wide(s[SIZE_AT]);
-    table_rules_clock::each_last_ok(&s[clock_end..], &s[CLOCK_AT..clock_end], Station(s[OWN_AT]))
-}
+    // How many objects the table has.
+    fn objects(&self) -> usize
+        ensures { result ≡ objects_in self.now.words.now }
+    {
+        words_tags::wide(self.words[OBJECTS_AT])
+    }
 
-// Whether the rows keep their rules.
-fn rows_kept(s: &[u32]) -> bool
-    requires { Headed s.now }
-    ensures { result ≡ rows_kept (kinds_in s.now) (clock_in s.now) (rows_in s.now) }
-{
-    let size = words_tags::wide(s[SIZE_AT]);
-    let kinds_end = KINDS_AT + words_tags::wide(s[OBJECTS_AT]);
-    let clock_end = CLOCK_AT + size;
-    let start = table_ranges::rows_at(size);
-    table_rules_rows::rows_ok(
-        &s[start..],
-        KEY + size,
-        RowCount(s[COUNT_AT]),
-        &s[KINDS_AT..kinds_end],
-        &s[CLOCK_AT..clock_end],
-    )
-}
+    // The kind of each object.
+    fn kinds(&self) -> &'a [u32]
+        ensures { result.now ≡ kinds_in self.now.words.now }
+    {
+        let end = KINDS_AT + self.objects();
+        &self.words[KINDS_AT..end]
+    }
 
-// Whether the words from the last row up to the end of the capacity are 0.
-fn unused_ok(s: &[u32]) -> bool
-    requires { Headed s.now }
-    ensures { result ≡ unused_kept s.now }
-{
-    let size = words_tags::wide(s[SIZE_AT]);
-    let start = table_ranges::space_for(size, RowCount(s[COUNT_AT]));
-    let end = table_ranges::space_for(size, RowCount(s[CAPACITY_AT]));
-    table_rules_rows::all_zero(&s[start..end])
-}
+    // D.
+    fn clock(&self) -> &'a [u32]
+        ensures { result.now ≡ clock_in self.now.words.now }
+    {
+        let end = CLOCK_AT + self.size();
+        &self.words[CLOCK_AT..end]
+    }
 
-// Whether all that stands behind the head keeps the rules.
-fn parts_ok(s: &[u32]) -> bool
-    requires { Headed s.now }
-    ensures { result ≡ parts_kept s.now }
-{
-    kinds_ok(s) && totals_ok(s) && lasts_ok(s) && rows_kept(s) && unused_ok(s)
+    // Whether the kinds are known ones, with zeros after them.
+    fn kinds_ok(&self) -> bool
+        ensures { result ≡ kinds_kept self.now.words.now }
+    {
+        let end = KINDS_AT + self.objects();
+        all_in_range(self.kinds(), 1, meaning::GREATEST_KIND)
+            && table_rules_rows::all_zero(&self.words[end..TOTALS_AT])
+    }
+
+    // Whether the totals are within the bound that the clock sets, with zeros after them.
+    fn totals_ok(&self) -> bool
+        ensures { result ≡ totals_kept self.now.words.now }
+    {
+        let end = TOTALS_AT + self.objects() * TOTAL_WORDS;
+        let bound = table_rules_clock::total_bound(self.clock());
+        table_rules_clock::each_total_ok(self.kinds(), &self.words[TOTALS_AT..], bound)
+            && table_rules_rows::all_zero(&self.words[end..CLOCK_AT])
+    }
+
+    // Whether the vectors of the last frames accepted are what the clock allows.
+    fn lasts_ok(&self) -> bool
+        ensures { result ≡ lasts_kept self.now.words.now }
+    {
+        let lasts = &self.words[CLOCK_AT + self.size()..];
+        table_rules_clock::each_last_ok(lasts, self.clock(), Station(self.words[OWN_AT]))
+    }
+
+    // Whether the rows keep their rules.
+    fn rows_kept(&self) -> bool
+        ensures { result ≡ rows_kept (kinds_in self.now.words.now) (clock_in self.now.words.now) (rows_in self.now.words.now) }
+    {
+        let size = self.size();
+        let start = table_ranges::rows_at(size);
+        table_rules_rows::rows_ok(
+            &self.words[start..],
+            KEY + size,
+            RowCount(self.words[COUNT_AT]),
+            self.kinds(),
+            self.clock(),
+        )
+    }
+
+    // Whether the words from the last row up to the end of the capacity are 0.
+    fn unused_ok(&self) -> bool
+        ensures { result ≡ unused_kept self.now.words.now }
+    {
+        let size = self.size();
+        let start = table_ranges::space_for(size, RowCount(self.words[COUNT_AT]));
+        let end = table_ranges::space_for(size, RowCount(self.words[CAPACITY_AT]));
+        table_rules_rows::all_zero(&self.words[start..end])
+    }
+
+    // Whether all that stands behind the head keeps the rules.
+    fn parts_ok(&self) -> bool
+        ensures { result ≡ parts_kept self.now.words.now }
+    {
+        self.kinds_ok()
+            && self.totals_ok()
+            && self.lasts_ok()
+            && self.rows_kept()
+            && self.unused_ok()
+    }
 }
 
 // Whether the words hold a table by the table rules, whatever they are and however many.
 pub fn is_table(s: &[u32]) -> bool
     ensures { result ≡ holds_table s.now }
 {
-    CLOCK_AT <= s.len() && head_ok(s) && parts_ok(s)
+    CLOCK_AT <= s.len() && head_ok(s) && HeadedWords { words: s }.parts_ok()
 }

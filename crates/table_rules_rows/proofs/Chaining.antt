@@ -22,6 +22,31 @@ use Rattle.meaning.specs.Order.{same}
 use Rattle.meaning.specs.Rows.{lower_key}
 use Rattle.words_layout.specs.Words.{pieces}
 use Rattle.table_rules_rows.specs.RowTests.{follows, chained}
+use borrow.Author.Tests.{ne_eqb}
+use Rattle.std.specs.Prelude.{Result}
+use Rattle.std.proofs.Common.{Ok, Err, inl, inr}
+use Rattle.std.specs.Result.{result_eq}
+use Rattle.table_kinds.specs.Kinds.{KindOf, kind_number}
+use Rattle.table_kinds.specs.contracts.KindPartialEq.TheImpl.{eq-value}
+use Rattle.table_kinds.specs.declared.UnknownKind.{UnknownKind}
+use Rattle.table_kinds.specs.declared.Kind.{Kind}
+use Rattle.table_kinds.specs.declared.Kind.TheVariants.{GrowCounter, UpDownCounter, GrowSet, TwoPhaseSet, EnableWinsFlag, DisableWinsFlag, MultiValueRegister, AddWinsSet, RemoveWinsSet}
+
+-- whether the kind of a number is that of the two-phase set
+two_phase_kind : (kind : Kind) → (eq-value).it kind TwoPhaseSet ≡ eqb (kind_number kind) 4
+two_phase_kind GrowCounter = refl
+two_phase_kind UpDownCounter = refl
+two_phase_kind GrowSet = refl
+two_phase_kind TwoPhaseSet = refl
+two_phase_kind EnableWinsFlag = refl
+two_phase_kind DisableWinsFlag = refl
+two_phase_kind MultiValueRegister = refl
+two_phase_kind AddWinsSet = refl
+two_phase_kind RemoveWinsSet = refl
+
+pub two_phase_told : (number : ℕ) (r : Result Kind UnknownKind) (same_error : UnknownKind → UnknownKind → Bool) → KindOf number r → result_eq (eq-value).it same_error r (Ok TwoPhaseSet) ≡ eqb number 4
+two_phase_told number (Ok kind) same_error e = two_phase_kind kind ∙ ap (λ n. eqb n 4) e
+two_phase_told number (Err e) same_error f = sym (ne_eqb number 4 (λ z. elim f.1 [ inl below ↦ omega (arith, z, below) | inr above ↦ omega (arith, z, above) ]))
 
 -- one row and the next, by their keys: two tests of which the second is made where the first holds
 pub both_tests : (one first second r both : Bool) → one ≡ first → one ≡ true → r ≡ second → both ≡ r → both ≡ (first && second)

@@ -20,7 +20,7 @@ use Rattle.table_kinds.specs.declared.Kind.TheVariants.{GrowCounter, UpDownCount
 use Rattle.table_kinds.proofs.KindLaws.{no_codes}
 use Rattle.std.specs.Prelude.{◌⊎◌}
 use Rattle.std.proofs.Common.{inl, inr, subst}
-use Rattle.table_rules_rows.specs.RowTests.{content_kept}
+use Rattle.table_rules_rows.specs.RowTests.{content_kept, row_kept}
 use Rattle.words_layout.specs.Words.{word_limit}
 
 -- what a code says of an operation, whatever else the operation is
@@ -43,6 +43,11 @@ module _ (kind : ℕ) (row : List ℕ) where
 
   pub stores_unknown : kind < 1 ⊎ 9 < kind → false ≡ storable kind (row_of row).operation
   stores_unknown none = elim none [ inl below ↦ stores_no_counter (omega (arith, below)) | inr above ↦ stores_no_kind above ]
+
+-- no row is kept whose object has no kind
+pub kept_unknown : (kinds clock row : List ℕ) (kind : ℕ) → kind ≡ get_or kinds (get_or row 0 0) 0 → kind < 1 ⊎ 9 < kind → false ≡ row_kept kinds clock row
+unfolding row_kept content_kept
+kept_unknown kinds clock row kind k none = rw (← k, sym (stores_unknown kind row none)) refl
 
 -- in which kinds removes bar a value or stand
 abbrev pub keeps_removes : Kind → Bool
@@ -81,9 +86,9 @@ keeps_no_others MultiValueRegister a b d = refl
 keeps_no_others AddWinsSet a b d = refl
 keeps_no_others RemoveWinsSet a b d = absurd (d refl)
 
-pub stores_known : (number : ℕ) (kind : Kind) (row : List ℕ) → kind_number kind ≡ number → (b : Bool) → b ≡ cond (eqb (get_or row 3 0) 1) (not (is_counter (kind_number kind))) (eqb (get_or row 3 0) 2 && keeps_removes kind) → b ≡ storable number (row_of row).operation
+pub stores_known : (kind : Kind) (row : List ℕ) (b : Bool) → b ≡ cond (eqb (get_or row 3 0) 1) (not (is_counter (kind_number kind))) (eqb (get_or row 3 0) 2 && keeps_removes kind) → b ≡ storable (kind_number kind) (row_of row).operation
 unfolding storable gets_row
-stores_known number kind row e b f = rw (← e) (f ∙ sym (stores_by_code kind (get_or row 3 0)))
+stores_known kind row b f = f ∙ sym (stores_by_code kind (get_or row 3 0))
 
 -- where the code is storable, the value is 0 in flags and a word in the others
 stored_facts : (kind : ℕ) (u : Operation) → storable kind u ≡ true → (is_counter kind ≡ false) × (eqb u.code 3 ≡ false)

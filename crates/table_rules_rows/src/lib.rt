@@ -1,12 +1,12 @@
 // The table rules of rows in lent words: each row by itself, and with the one before it.
 #![tactic(auto)]
 
-ghost use Rattle.std.specs.Prelude.{◌≡◌, ◌+◌, ◌*◌, ◌≤◌, eqb, length};
+ghost use Rattle.std.specs.Prelude.{◌≡◌, ◌*◌, ◌≤◌, length};
 ghost use Rattle.meaning.specs.Tests.{every};
-ghost use Rattle.meaning.specs.Operations.{is_flag, two_phase_set};
 ghost use Rattle.meaning.specs.Table.{settled_only, storable};
 ghost use Rattle.words_layout.specs.Words.{all_zero, pieces};
 ghost use Rattle.words_layout.specs.Layout.{row_of, row_width};
+ghost use Rattle.table_kinds.specs.Kinds.{kind_number};
 ghost use Rattle.table_insert.specs.Placing.{key_words};
 ghost use Rattle.table_rules_rows.specs.RowTests.{chained, content_kept, follows, number_kept, repeats, row_kept, rows_kept, tag_kept, unsettled_kept};
 
@@ -25,13 +25,10 @@ pub fn all_zero(words: &[u32]) -> bool
 }
 
 // Whether a row of this kind may have this code: adds in all that keep rows, removes where they bar or stand.
-fn is_storable(kind: u32, row: &[u32]) -> bool
+fn is_storable(kind: Kind, row: &[u32]) -> bool
     requires { key_words ≤ length row.now }
-    ensures { result ≡ storable kind (row_of row.now).operation }
+    ensures { result ≡ storable (kind_number kind) (row_of row.now).operation }
 {
-    let Ok(kind) = Kind::try_from(kind) else {
-        return false;
-    };
     if row[CODE_AT] == ADDS {
         return !kind.is_counter();
     }
@@ -42,23 +39,12 @@ fn is_storable(kind: u32, row: &[u32]) -> bool
         )
 }
 
-// Whether objects of this kind are flags.
-#[tactic(auto, unfolding(meaning::specs::Operations::is_flag))]
-fn is_flag(kind: u32) -> bool
-    ensures { result ≡ is_flag kind }
-{
-    matches!(
-        Kind::try_from(kind),
-        Ok(Kind::EnableWinsFlag | Kind::DisableWinsFlag)
-    )
-}
-
 // Whether a row of this kind may have this code and this value.
-fn content_ok(kind: u32, row: &[u32]) -> bool
+fn content_ok(kind: Kind, row: &[u32]) -> bool
     requires { key_words ≤ length row.now }
-    ensures { result ≡ content_kept kind (row_of row.now).operation }
+    ensures { result ≡ content_kept (kind_number kind) (row_of row.now).operation }
 {
-    is_storable(kind, row) && row[HIGH_AT] == NO_HIGH && (!is_flag(kind) || row[LOW_AT] == 0)
+    is_storable(kind, row) && row[HIGH_AT] == NO_HIGH && (!kind.is_flag() || row[LOW_AT] == 0)
 }
 
 // Whether the number is the vector's entry at the sender.
@@ -82,16 +68,16 @@ fn unsettled_ok(row: &[u32], clock: &[u32]) -> bool
 
 // Whether objects of this kind keep settled rows only.
 #[tactic(auto, unfolding(meaning::specs::Table::settled_only))]
-fn is_settled_only(kind: u32) -> bool
-    ensures { result ≡ settled_only kind }
+fn is_settled_only(kind: Kind) -> bool
+    ensures { result ≡ settled_only (kind_number kind) }
 {
-    matches!(Kind::try_from(kind), Ok(Kind::GrowSet | Kind::TwoPhaseSet))
+    matches!(kind, Kind::GrowSet | Kind::TwoPhaseSet)
 }
 
 // Whether a row of this kind has no tag where it is settled, and else one that the clock covers.
-fn tag_ok(kind: u32, row: &[u32], clock: &[u32]) -> bool
+fn tag_ok(kind: Kind, row: &[u32], clock: &[u32]) -> bool
     requires { length row.now ≡ row_width (length clock.now) }
-    ensures { result ≡ tag_kept kind clock.now row.now }
+    ensures { result ≡ tag_kept (kind_number kind) clock.now row.now }
 {
     if row[UNSETTLED_AT] == SETTLED {
         all_zero(&row[TAG_AT..])
@@ -105,7 +91,9 @@ pub fn row_ok(row: &[u32], kinds: &[u32], clock: &[u32]) -> bool
     requires { length row.now ≡ row_width (length clock.now) }
     ensures { result ≡ row_kept kinds.now clock.now row.now }
 {
-    let kind = table_kinds::kind_of(kinds, row[OBJECT_AT]);
+    let Ok(kind) = Kind::try_from(table_kinds::kind_of(kinds, row[OBJECT_AT])) else {
+        return false;
+    };
     content_ok(kind, row) && tag_ok(kind, row, clock)
 }
 
@@ -127,20 +115,13 @@ fn has_same_value(before: &[u32], row: &[u32]) -> bool
     words_tags::same(&before[OBJECT_AT..CODE_AT], &row[OBJECT_AT..CODE_AT])
 }
 
-// Whether objects of this kind have one row a value.
-fn is_two_phase_set(kind: u32) -> bool
-    ensures { result ≡ eqb kind two_phase_set }
-{
-    matches!(Kind::try_from(kind), Ok(Kind::TwoPhaseSet))
-}
-
 // Whether a row may come next after another, by the first seven words of each.
 pub fn may_follow(before: &[u32], row: &[u32], kinds: &[u32]) -> bool
     requires { (length before.now ≡ key_words) × (length row.now ≡ key_words) }
     ensures { result ≡ follows kinds.now before.now row.now }
 {
     let kind = table_kinds::kind_of(kinds, row[OBJECT_AT]);
-    let repeats = is_two_phase_set(kind) && has_same_value(before, row);
+    let repeats = Kind::try_from(kind) == Ok(Kind::TwoPhaseSet) && has_same_value(before, row);
     !repeats && table_insert::lower(before, row)
 }
 

@@ -1,21 +1,18 @@
 use Rattle.std.proofs.Common.{arith}
 use Rattle.std.proofs.lemmas.Bool.Decides.{nat_tests}
-use Rattle.table_rules_rows.proofs.Contents.{stores_unknown, stores_known, keeps_no_others}
+use Rattle.table_rules_rows.proofs.Contents.{stores_known, keeps_no_others}
 use Rattle.table_rules_rows.proofs.is_storable.Goals as goal
 
-pub returns-in_default : goal.returns-in_default
-returns-in_default c = stores_unknown c.args.kind c.args.row.now c.in_default.ensures.1
-
 pub returns-then-row-eq-ADDS : goal.returns-then-row-eq-ADDS
-returns-then-row-eq-ADDS c = stores_known _ c.in-Ok.kind c.args.row.now c.in-Ok.ensures _ (grind (arith, nat_tests))
+returns-then-row-eq-ADDS c = stores_known c.args.kind c.args.row.now _ (grind (arith, nat_tests))
 
 pub returns-in-TwoPhaseSet : goal.returns-in-TwoPhaseSet
-returns-in-TwoPhaseSet c = stores_known _ c.in-Ok.kind c.args.row.now c.in-Ok.ensures _ (grind (arith, nat_tests))
+returns-in-TwoPhaseSet c = stores_known c.args.kind c.args.row.now _ (grind (arith, nat_tests))
 
-pub returns-in_default-matches : goal.returns-in_default-matches
-returns-in_default-matches c =
-    let none = keeps_no_others c.in-Ok.kind c.in_default-matches.not-TwoPhaseSet c.in_default-matches.not-DisableWinsFlag c.in_default-matches.not-RemoveWinsSet in
-    stores_known _ c.in-Ok.kind c.args.row.now c.in-Ok.ensures _ (grind (arith, nat_tests, none))
+pub returns-in_default : goal.returns-in_default
+returns-in_default c =
+    let none = keeps_no_others c.args.kind c.in_default.not-TwoPhaseSet c.in_default.not-DisableWinsFlag c.in_default.not-RemoveWinsSet in
+    stores_known c.args.kind c.args.row.now _ (grind (arith, nat_tests, none))
 
 pub returns-else-row-eq-REMOVES : goal.returns-else-row-eq-REMOVES
-returns-else-row-eq-REMOVES c = stores_known _ c.in-Ok.kind c.args.row.now c.in-Ok.ensures _ (grind (arith, nat_tests))
+returns-else-row-eq-REMOVES c = stores_known c.args.kind c.args.row.now _ (grind (arith, nat_tests))

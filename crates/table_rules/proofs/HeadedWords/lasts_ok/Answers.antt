@@ -1,5 +1,5 @@
 use Rattle.table_rules.proofs.Parts.{lasts_room, lasts_told}
-use Rattle.table_rules.proofs.lasts_ok.Goals as goal
+use Rattle.table_rules.proofs.HeadedWords.lasts_ok.Goals as goal
 
 pub each_last_ok-requires : goal.each_last_ok-requires
 each_last_ok-requires c = search lasts_room

@@ -1,5 +1,5 @@
 use Rattle.table_rules.proofs.Parts.{rows_start, rows_room, row_wide, rows_told}
-use Rattle.table_rules.proofs.rows_kept.Goals as goal
+use Rattle.table_rules.proofs.HeadedWords.rows_kept.Goals as goal
 
 pub slice_bounds-rows_ok-count : goal.slice_bounds-rows_ok-count
 slice_bounds-rows_ok-count c = search rows_start

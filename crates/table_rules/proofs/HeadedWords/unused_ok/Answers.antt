@@ -1,6 +1,6 @@
 use Rattle.table_rules.proofs.Parts.{unused_end, unused_start, unused_told}
 use native.Mathlib.Omega.{arith}
-use Rattle.table_rules.proofs.unused_ok.Goals as goal
+use Rattle.table_rules.proofs.HeadedWords.unused_ok.Goals as goal
 
 pub slice_bounds-all_zero-count : goal.slice_bounds-all_zero-count
 slice_bounds-all_zero-count c = search (unused_start, arith)

@@ -1,7 +1,7 @@
 use Rattle.std.proofs.Common.{arith}
 use Rattle.std.proofs.lemmas.Bool.Decides.{nat_tests}
 use Rattle.table_rules.specs.TableTests.{parts_kept}
-use Rattle.table_rules.proofs.parts_ok.Goals as goal
+use Rattle.table_rules.proofs.HeadedWords.parts_ok.Goals as goal
 
 pub returns-then-rows_kept : goal.returns-then-rows_kept
 unfolding parts_kept
