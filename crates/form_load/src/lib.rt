@@ -24,7 +24,7 @@ const OPENED: u32 = 1;
 const CLOCKED: usize = 2;
 
 // What comes next in a form: D, a station's last vector, a counter's total, a row or the closing line, or nothing that a load waits for.
-#[derive(Clone, Copy)]
+#[derive(Clone, Copy, Debug, PartialEq, Eq)]
 pub enum Next {
     Clock,
     Last(Station),
@@ -82,19 +82,15 @@ fn head_loads(space: &[u32]) -> bool
     requires { clock_at ≤ length space.now }
     ensures { result ≡ head_loads space.now }
 {
-    if space[MARK_AT] != TABLE_MARK {
-        return false;
-    }
-    if table_rules::sizes_ok(
-        space[SIZE_AT],
-        Station(space[OWN_AT]),
-        RowCount(space[CAPACITY_AT]),
-        space[OBJECTS_AT],
-        RowCount(space[COUNT_AT]),
-    ) {
-        return table_rules::has_room(space);
-    }
-    false
+    space[MARK_AT] == TABLE_MARK
+        && table_rules::sizes_ok(
+            space[SIZE_AT],
+            Station(space[OWN_AT]),
+            RowCount(space[CAPACITY_AT]),
+            space[OBJECTS_AT],
+            RowCount(space[COUNT_AT]),
+        )
+        && table_rules::has_room(space)
 }
 
 // Whether the kinds are known ones and something comes next.
@@ -103,23 +99,15 @@ fn load_waits(space: &[u32]) -> bool
     ensures { result ≡ load_waits space.now }
 {
     let end = KINDS_AT + words_tags::wide(space[OBJECTS_AT]);
-    if table_rules::all_in_range(&space[KINDS_AT..end], 1, meaning::GREATEST_KIND) {
-        return waits_for(next_in(space), RowCount(space[COUNT_AT]));
-    }
-    false
+    table_rules::all_in_range(&space[KINDS_AT..end], 1, meaning::GREATEST_KIND)
+        && waits_for(next_in(space), RowCount(space[COUNT_AT]))
 }
 
 // Whether the words are those of a load under way, whatever they are and however many.
 fn under_load(space: &[u32]) -> bool
     ensures { result ≡ under_load space.now }
 {
-    if space.len() < CLOCK_AT {
-        return false;
-    }
-    if head_loads(space) {
-        return load_waits(space);
-    }
-    false
+    CLOCK_AT <= space.len() && head_loads(space) && load_waits(space)
 }
 
 // The bytes of a line to a space under load, by what comes next.

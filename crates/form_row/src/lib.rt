@@ -16,15 +16,14 @@ pub fn row_words(f: Row, size: usize) -> [u32; words_layout::WIDEST]
     requires { (length f.vector ≡ greatest_size) × (f.settled ≤ 1) × (size ≤ greatest_size) }
     ensures { result ≡ row_said size f ++ drop size f.vector }
 {
-    let vector = f.vector;
-    let number = words_tags::number_at(&vector[0..size], Station(f.sender));
+    let number = words_tags::number_at(&f.vector[0..size], Station(f.sender));
     let unsettled = line_read::SETTLED_BYTE - f.settled;
     let key = [
         f.object, NO_HIGH, f.value, f.code, unsettled, f.sender, number.0,
     ];
     let mut row = [0u32; words_layout::WIDEST];
     words_moves::put(&mut row, 0, &key);
-    words_moves::put(&mut row, KEY, &vector);
+    words_moves::put(&mut row, KEY, &f.vector);
     row
 }
 

@@ -66,12 +66,11 @@ pub fn take_last(space: &mut [u32], bytes: &[u8], station: Station) -> Result<Lo
     if f.station != station.0 {
         return spoil(space);
     }
-    let vector = f.vector;
     let end = CLOCK_AT + size;
     let own = Station(space[OWN_AT]);
-    if table_rules_clock::last_ok(&vector[0..size], &space[CLOCK_AT..end], station, own) {
+    if table_rules_clock::last_ok(&f.vector[0..size], &space[CLOCK_AT..end], station, own) {
         let at = end + words_tags::wide(f.station) * size;
-        take_words(space, at, &vector[0..size])
+        take_words(space, at, &f.vector[0..size])
     } else {
         spoil(space)
     }

@@ -39,11 +39,12 @@ pub record Lessening (own : ℕ) (low₀ lasts low : List ℕ) (k at : ℕ) : Ty
   pub room : length low₀ * length low₀ ≤ length lasts
   pub whole : least_of low₀ (others_of own (pieces (length low₀) (length low₀) lasts)) ≡ least_of low (rest_from own k (pieces (length low₀) (length low₀ - k) (drop at lasts)))
 
-pub lessening_start : (own : ℕ) (low lasts : List ℕ) → length low * length low ≤ length lasts → Lessening own low lasts low 0 0
+pub lessening_start : (own : ℕ) (low lasts : List ℕ) → length low * length low ≤ length lasts → Lessening own low lasts low 0 (0 * length low)
 lessening_start own low lasts h =
     let z : length low - 0 ≡ length low = omega arith in
     let o : own - 0 ≡ own = omega arith in
-    record { sized = refl; within = omega arith; place = rw z (omega arith); room = h; whole = rw (z, le-ltb own 0 (omega arith), o) refl }
+    let first : 0 * length low ≡ 0 = omega arith in
+    rw first (record { sized = refl; within = omega arith; place = rw z (omega arith); room = h; whole = rw (z, le-ltb own 0 (omega arith), o) refl })
 
 module _ (own : ℕ) (low₀ lasts low : List ℕ) (k at : ℕ) (L : Lessening own low₀ lasts low k at) (h : k < length low₀) where
   abbrev n : ℕ
@@ -89,6 +90,12 @@ module _ (own : ℕ) (low₀ lasts low : List ℕ) (k at : ℕ) (L : Lessening o
         whole = L.whole ∙ ap (λ (l : List Vector). least_of low (rest_from own k l)) ahead ∙ ap (least_of low) (rest_takes own k (take n (drop at lasts)) (pieces n (n - (k + 1)) (drop (at + n) lasts)) ne)
             ∙ ap (λ (v : Vector). least_of v (rest_from own (k + 1) (pieces n (n - (k + 1)) (drop (at + n) lasts)))) (sym (rw q at e));
       })
+
+-- the place of the next station's vector, by the station
+pub at_next : (own : ℕ) (low₀ lasts low : List ℕ) (k n : ℕ) → length low ≡ n → Lessening own low₀ lasts low (k + 1) (k * n + n) → Lessening own low₀ lasts low (k + 1) ((k + 1) * length low)
+at_next own low₀ lasts low k n g L =
+    let q : k * n + n ≡ (k + 1) * length low = rw g (omega (arith, suc-mul k n)) in
+    subst (λ (at : ℕ). Lessening own low₀ lasts low (k + 1) at) q L
 
 lessening_done : (own : ℕ) (low₀ lasts low : List ℕ) (k at : ℕ) → Lessening own low₀ lasts low k at → length low₀ ≤ k → low ≡ least_of low₀ (others_of own (pieces (length low₀) (length low₀) lasts))
 lessening_done own low₀ lasts low k at L h =

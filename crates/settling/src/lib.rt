@@ -20,13 +20,12 @@ fn lessen_by_others(low: &mut [u32], lasts: &[u32], own: Station)
     ensures { low.new ≡ least_of low.old (others_of own.0 (pieces (length low.old) (length low.old) lasts.now)) }
 {
     let place = words_tags::wide(own.0);
-    let mut at = 0;
     for station in 0..low.len() {
+        let at = station * low.len();
         let end = at + low.len();
         if station != place {
             words_tags::lessen(low, &lasts[at..end]);
         }
-        at = end;
     }
 }
 
