@@ -1,5 +1,4 @@
-// The one test that every outside call makes: whether lent words hold a table.
-// A table that was checked: what the calls behind the one test of a space stand on. This crate has no functions.
+// The one test that every outside call makes: whether lent words hold a table. What the test says of them is `Checked`, which the calls behind it stand on.
 #![tactic(auto)]
 
 ghost use Rattle.std.specs.Prelude.{◌≡◌, ◌≤◌, leb, length};

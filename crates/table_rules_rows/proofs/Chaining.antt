@@ -1,5 +1,5 @@
 -- Each row and the next.
-use Prim.Native.Nat.{ℕ, zero, suc, ◌≤◌, ◌<◌}
+use Prim.Native.Nat.{ℕ, zero, suc, ◌+◌, ◌≤◌, ◌<◌}
 use mathlib.Core.Path.{ap₂, ◌≡◌, refl, sym, ap, ◌∙◌}
 use mathlib.Core.Bool.{Bool, true, false, not, ◌&&◌}
 use mathlib.Core.List.{List, [], ◌∷◌}
@@ -16,7 +16,7 @@ use Rattle.std.proofs.lemmas.Iterator.Consumers.{YieldsList-at}
 use Rattle.words_layout.proofs.Pieces.{Wide}
 use native.Mathlib.Omega.{arith}
 use lib.ListN.{length, get_or, take, drop}
-use lib.Seq.{take-take, take_all, get_or-take}
+use lib.Seq.{drop-drop, take-take, take_all, get_or-take}
 use Rattle.meaning.specs.Tests.{every}
 use Rattle.meaning.specs.Order.{same}
 use Rattle.meaning.specs.Rows.{lower_key}
@@ -100,3 +100,7 @@ pub YieldsList-from_next : {s : Zip (ChunksExact ℕ) (Skip (ChunksExact ℕ))} 
     → YieldsList (zips chunks_exact_steps (skip_steps chunks_exact_steps)) (λ p. (p.0.now, p.1.now)) s (zip (pieces w count words) (drop 1 (pieces w count words)))
 YieldsList-from_next w count words first second source one rows others =
     YieldsList-from_zip (YieldsList-at first rows) (YieldsList-at second (YieldsList-from_skip 1 (YieldsList-at source others) one))
+
+-- The first two of more rows, and what is left of the chain behind them.
+pub two_ahead : (test : List ℕ → List ℕ → Bool) (w m at : ℕ) (s : List ℕ) → chained test (pieces w (suc (suc m)) (drop at s)) ≡ (test (take w (drop at s)) (take w (drop (at + w) s)) && chained test (pieces w (suc m) (drop (at + w) s)))
+two_ahead test w m at s = ap (λ (behind : List ℕ). test (take w (drop at s)) (take w behind) && chained test (pieces w (suc m) behind)) (drop-drop w at s)

@@ -20,7 +20,7 @@ pub fn clear(words: &mut [u32], start: usize, end: usize)
     words[start..end].fill(0);
 }
 
-// Moves the words from one place up to another higher by a gap, the last first, since the two overlap.
+// Moves the words from one place up to another higher by a gap; the two may overlap.
 pub fn move_up(words: &mut [u32], start: usize, end: usize, gap: usize)
     requires { (start ≤ end) × (end + gap ≤ length words.old) }
     ensures { words.new ≡ take (start + gap) words.old ++ slice start end words.old ++ drop (end + gap) words.old }

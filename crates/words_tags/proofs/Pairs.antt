@@ -1,4 +1,4 @@
--- A test of two vectors pair by pair, by a loop that notes a fault and never leaves early.
+-- A test of two vectors pair by pair.
 use mathlib.Core.Path.{◌≡◌, refl, sym, ap, subst, ◌∙◌}
 use mathlib.Core.Bool.{Bool, true, false, ◌&&◌, and-true, and-false}
 use mathlib.Core.List.{[], ◌∷◌}
