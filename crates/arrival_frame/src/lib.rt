@@ -59,7 +59,11 @@ pub fn receive_frame(s: &mut [u32], f: Sent, v: &[u32]) -> Result<(), Refusal>
     requires { Checked s.old × (length v.now ≡ size_in s.old) }
     ensures { (refused result, s.new) ≡ received_by s.old (frame_from f v.now) }
 {
-    frame_number(s, f, v)?;
-    take_frame(s, f, v);
-    Ok(())
+    match frame_number(s, f, v) {
+        Ok(()) => {
+            take_frame(s, f, v);
+            Ok(())
+        }
+        Err(refusal) => Err(refusal),
+    }
 }

@@ -63,13 +63,17 @@ pub fn issue_number(s: &[u32], object: u32, code: u32, value: Value) -> Result<(
     let size = words_tags::wide(s[SIZE_AT]);
     let count = RowCount(s[COUNT_AT]);
     let own = Station(s[OWN_AT]);
-    early_refusal(s, size, object, code, value)?;
-    let offered = arrival::arrival_of(s, object, code, value, own);
-    let next = next_vector(s);
-    if arrival::has_room(s, size, count, offered, &next[0..size]) {
-        Ok(())
-    } else {
-        Err(Refusal::Full)
+    match early_refusal(s, size, object, code, value) {
+        Ok(()) => {
+            let offered = arrival::arrival_of(s, object, code, value, own);
+            let next = next_vector(s);
+            if arrival::has_room(s, size, count, offered, &next[0..size]) {
+                Ok(())
+            } else {
+                Err(Refusal::Full)
+            }
+        }
+        Err(refusal) => Err(refusal),
     }
 }
 

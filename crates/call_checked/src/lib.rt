@@ -27,9 +27,13 @@ fn open_with(space: &mut [u32], asked: line_read::Opening, kinds: &[u8]) -> Resu
         own,
         capacity,
     };
-    refusal_order::opening_refusal(h, kinds, space.len())?;
-    table_opening::lay_table(space, asked.stations, own, capacity, kinds);
-    Ok(())
+    match refusal_order::opening_refusal(h, kinds, space.len()) {
+        Ok(()) => {
+            table_opening::lay_table(space, asked.stations, own, capacity, kinds);
+            Ok(())
+        }
+        Err(refusal) => Err(refusal),
+    }
 }
 
 // "opening 1, 13": any space will do, one that holds a table too.
@@ -59,7 +63,8 @@ fn receive_read(space: &mut [u32], f: line_read::Operation) -> Result<(), Refusa
         value: Value(f.value),
     };
     let end = words_tags::wide(f.stations);
-    arrival_frame::receive_frame(space, sent, &f.vector[0..end])
+    arrival_frame::receive_frame(space, sent, &f.vector[0..end])?;
+    Ok(())
 }
 
 // A frame's line to a table that was checked.
@@ -82,16 +87,13 @@ fn issue_read(space: &mut [u32], f: line_read::Issue, out: &mut [u8]) -> Result<
     let size = words_tags::wide(space[words_layout::SIZE_AT]);
     let own = space[words_layout::OWN_AT];
     let vector = arrival_local::next_vector(space);
-    let characters = line_print::write_operation(
-        out,
-        own,
-        f.object,
-        f.code,
-        f.value,
-        &vector[0..size],
-    )?;
-    arrival_local::take_local(space, f.object, f.code, Value(f.value));
-    Ok(characters)
+    match line_print::write_operation(out, own, f.object, f.code, f.value, &vector[0..size]) {
+        Ok(characters) => {
+            arrival_local::take_local(space, f.object, f.code, Value(f.value));
+            Ok(characters)
+        }
+        Err(short) => Err(Refusal::from(short)),
+    }
 }
 
 // An issue's line to a table that was checked.

@@ -21,5 +21,8 @@ pub fn save_checked(
     if !line_decode::printing(line) {
         return Err(Refusal::Misshapen);
     }
-    Ok(form_write::write_line(space, k, out)?)
+    match form_write::write_line(space, k, out) {
+        Ok(there) => Ok(there),
+        Err(short) => Err(Refusal::from(short)),
+    }
 }

@@ -8,10 +8,11 @@ use native.Mathlib.Omega.{arith}
 use lib.ListN.{length, get_or, take, drop, set, length-drop, length-set, drop_of_length-le, take-append-drop}
 use lib.Seq.{append_snoc, drop-cons, drop-drop, drop-set-lt, length-take-le, take_all, take-suc-set}
 use lib.Dec.{eqb}
-use lib.Pointwise.{pointwise}
+use denote.Bor.{Bor}
 use Rattle.std.proofs.Common.{Option, Some, None}
-use Rattle.std.specs.Bool.{then_some}
-use Rattle.std.specs.List.{slice_range}
+use Rattle.std.proofs.lemmas.Option.{none-some}
+use Rattle.std.specs.List.{slice_get, slice_range}
+use Rattle.std.specs.Option.{option_copied, option_eq}
 use Rattle.line_hex.specs.Choice.{pick}
 use Rattle.line_hex.specs.Hex.{digit_value, is_digit, lf, value_of}
 use Rattle.line_hex.specs.Decoding.{byte_of, decoded, ended_at, is_line, just_lf, pair_of, pairs}
@@ -50,20 +51,33 @@ module _ (s : List ℕ) (at : ℕ) where
         let low : (is_digit y ≡ true) × (w ≡ value_of y) × (w < 16) = value_read y w f in
         sym (two_there ∙ rw (high.0, low.0, high.1, low.1) refl)
 
--- one LF alone, by the test of equal lists
-just_lf_is : (l : List ℕ) → pointwise eqb l (lf ∷ []) ≡ just_lf l
+-- one LF alone, by the number of the characters and the last of them
+module _ (last : Option (Bor ℕ)) (one : Bor ℕ) (f : one.now ≡ lf) where
+  abbrev last_is : Bool
+  last_is = option_eq (λ x y. eqb x.now y.now) last (Some one)
+
+  alone_is : (l : List ℕ) → length l ≤ 1 → option_copied last ≡ slice_get l (length l - 1) → last_is ≡ just_lf l
+  unfolding just_lf
+  alone_is l h e = go l last h e
+    where
+      go : (l : List ℕ) (o : Option (Bor ℕ)) → length l ≤ 1 → option_copied o ≡ slice_get l (length l - 1) → option_eq (λ x y. eqb x.now y.now) o (Some one) ≡ just_lf l
+      go [] None h e = refl
+      go [] (Some x) h e = absurd (none-some x.now (sym e))
+      go (c ∷ []) None h e = absurd (none-some c e)
+      go (c ∷ []) (Some x) h e = let same : x.now ≡ c = cc in rw (same, f) refl
+      go (c ∷ d ∷ l) o h e = absurd (omega arith)
+
+  other_is : (l : List ℕ) → option_copied last ≡ slice_get l (length l - 1) → last_is ≡ false → just_lf l ≡ false
+  unfolding just_lf
+  other_is [] e g = refl
+  other_is (c ∷ []) e g = sym (alone_is (c ∷ []) (omega arith) e) ∙ g
+  other_is (c ∷ d ∷ l) e g = refl
+
+many_is : (l : List ℕ) → (length l ≡ 1 → ⊥) → just_lf l ≡ false
 unfolding just_lf
-just_lf_is [] = refl
-just_lf_is (c ∷ []) = go (eqb c lf)
-  where
-    go : (t : Bool) → t && true ≡ t
-    go true = refl
-    go false = refl
-just_lf_is (c ∷ d ∷ l) = go (eqb c lf)
-  where
-    go : (t : Bool) → t && false ≡ false
-    go true = refl
-    go false = refl
+many_is [] h = refl
+many_is (c ∷ []) h = absurd (h refl)
+many_is (c ∷ d ∷ l) h = refl
 
 -- the ways through ended_at
 module _ (s : List ℕ) (at count : ℕ) where
@@ -71,14 +85,19 @@ module _ (s : List ℕ) (at count : ℕ) where
   unfolding just_lf
   ended_past h = rw (drop_of_length-le s h) refl
 
-  pub ended_by : (b : Bool) (rest one : List ℕ) → b ≡ pointwise eqb rest one → rest ≡ slice_range s at (length s) → one ≡ lf ∷ [] → then_some b count ≡ ended_at s at count
-  ended_by b rest one e r o =
-      let whole : slice_range s at (length s) ≡ drop at s = take_all (length s - at) (drop at s) (omega (arith, length-drop at s)) in
-      rw (e, r, o, whole, just_lf_is (drop at s)) (go (just_lf (drop at s)))
-    where
-      go : (t : Bool) → then_some t count ≡ pick t (Some count) None
-      go true = refl
-      go false = refl
+  module _ (rest : List ℕ) (r : rest ≡ slice_range s at (length s)) where
+    left : rest ≡ drop at s
+    left = r ∙ take_all (length s - at) (drop at s) (omega (arith, length-drop at s))
+
+    pub ended_many : (length rest ≡ 1 → ⊥) → None ≡ ended_at s at count
+    ended_many h = rw (← left, many_is rest h) refl
+
+    module _ (t : Bool) (last : Option (Bor ℕ)) (one : Bor ℕ) (f : one.now ≡ lf) (e : t ≡ option_eq (λ x y. eqb x.now y.now) last (Some one)) (l : option_copied last ≡ slice_get rest (length rest - 1)) where
+      pub ended_lf : length rest ≤ 1 → t ≡ true → Some count ≡ ended_at s at count
+      ended_lf h g = rw (← left, ← alone_is last one f rest h l, ← e, g) refl
+
+      pub ended_other : t ≡ false → None ≡ ended_at s at count
+      ended_other g = rw (← left, other_is last one f rest l (sym e ∙ g)) refl
 
 -- the pairs from the front: one more, or none
 pairs_byte : (room : ℕ) (s : List ℕ) (b : ℕ) → pair_of s ≡ Some b → pairs (suc room) s ≡ b ∷ pairs room (drop 2 s)

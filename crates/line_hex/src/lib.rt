@@ -48,7 +48,12 @@ fn ended_at(line: &[u8], at: usize, count: usize) -> Option<usize>
     ensures { result ≡ ended_at line.now at count }
 {
     let rest = line.get(at..)?;
-    (rest == [LF].as_slice()).then_some(count)
+    let alone = rest.len() == 1;
+    if alone && rest.last() == Some(&LF) {
+        Some(count)
+    } else {
+        None
+    }
 }
 
 // A character joins the line where there is room, or is let go; the number of characters kept.

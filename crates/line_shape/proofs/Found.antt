@@ -70,28 +70,28 @@ module _ (kind : ℕ) where
     none_on : (n : ℕ) (c : Reader) → c ≡ at n → n < 7 → None ≡ byte_at c.src.now c.at → Taken s.now short_widths kind 0 None
     none_on n c e k f = short n k (no_byte_given s.now n (f ∙ ap (λ (r : Reader). byte_at r.src.now r.at) e))
 
-    pub none_first : None ≡ byte_at s.now 0 → Taken s.now short_widths kind 0 None
+    none_first : None ≡ byte_at s.now 0 → Taken s.now short_widths kind 0 None
     none_first e = none_on 0 (at 0) refl (omega arith) e
 
     module _ (first : ℕ) (e₁ : Some first ≡ byte_at s.now 0) (c₁ : Reader) (g₁ : c₁ ≡ read_on 1 (at 0)) where
       stands_first : c₁ ≡ at 1
       stands_first = on 0 1 (at 0) c₁ refl (omega (arith, (byte_given s.now 0 first e₁).0)) g₁
 
-      pub none_second : None ≡ byte_at c₁.src.now c₁.at → Taken s.now short_widths kind 0 None
+      none_second : None ≡ byte_at c₁.src.now c₁.at → Taken s.now short_widths kind 0 None
       none_second e = none_on 1 c₁ stands_first (omega arith) e
 
       module _ (second : ℕ) (e₂ : Some second ≡ byte_at c₁.src.now c₁.at) (c₂ : Reader) (g₂ : c₂ ≡ read_on 1 c₁) where
         stands_second : c₂ ≡ at 2
         stands_second = on 1 1 c₁ c₂ stands_first (omega (arith, (byte_on 1 second c₁ stands_first e₂).0)) g₂
 
-        pub none_third : None ≡ byte_at c₂.src.now c₂.at → Taken s.now short_widths kind 0 None
+        none_third : None ≡ byte_at c₂.src.now c₂.at → Taken s.now short_widths kind 0 None
         none_third e = none_on 2 c₂ stands_second (omega arith) e
 
         module _ (third : ℕ) (e₃ : Some third ≡ byte_at c₂.src.now c₂.at) (c₃ : Reader) (g₃ : c₃ ≡ read_on 1 c₂) where
           stands_third : c₃ ≡ at 3
           stands_third = on 2 1 c₂ c₃ stands_second (omega (arith, (byte_on 2 third c₂ stands_second e₃).0)) g₃
 
-          pub none_value : None ≡ four_at c₃.src.now c₃.at → Taken s.now short_widths kind 0 None
+          none_value : None ≡ four_at c₃.src.now c₃.at → Taken s.now short_widths kind 0 None
           none_value e = let few : length s.now < 3 + 4 = no_four_given s.now 3 (e ∙ ap (λ (r : Reader). four_at r.src.now r.at) stands_third) in short 6 (omega arith) (omega arith)
 
           module _ (value : ℕ) (e₄ : Some value ≡ four_at c₃.src.now c₃.at) (c₄ : Reader) (g₄ : c₄ ≡ read_on 4 c₃) where
@@ -104,17 +104,17 @@ module _ (kind : ℕ) where
             first_is : first ≡ get_or s.now 0 0
             first_is = (byte_given s.now 0 first e₁).1
 
-            pub not_its_type : (first ≡ kind → ⊥) → Taken s.now short_widths kind 0 None
+            not_its_type : (first ≡ kind → ⊥) → Taken s.now short_widths kind 0 None
             not_its_type h = none_taken s.now short_widths kind 0 (other_type s.now (omega (arith, given.0)) (λ e. h (first_is ∙ e)))
 
             past : (t : Bool) → t ≡ at_end c₄.src.now c₄.at → leb (length s.now) 7 ≡ t
             unfolding at_end
             past t e = sym (e ∙ ap (λ (r : Reader). leb (length r.src.now) r.at) stands_behind)
 
-            pub not_ended : false ≡ at_end c₄.src.now c₄.at → Taken s.now short_widths kind 0 None
+            not_ended : false ≡ at_end c₄.src.now c₄.at → Taken s.now short_widths kind 0 None
             not_ended e = none_taken s.now short_widths kind 0 (other_size s.now (λ k. omega (arith, leb-false (length s.now) 7 (past false e))))
 
-            pub short_taken : first ≡ kind → true ≡ at_end c₄.src.now c₄.at → (x y z : ℕ) → x ≡ first → y ≡ second → z ≡ third
+            short_taken : first ≡ kind → true ≡ at_end c₄.src.now c₄.at → (x y z : ℕ) → x ≡ first → y ≡ second → z ≡ third
                 → Taken s.now short_widths kind 0 (Some (record { head = x ∷ y ∷ z ∷ value ∷ 0 ∷ 0 ∷ []; vector = replicate greatest_size 0 }))
             short_taken t e x y z ex ey ez =
                 let size : length s.now ≡ 7 = omega (arith, given.0, leb-true (length s.now) 7 (past true e)) in
@@ -188,3 +188,42 @@ short_finds kind s = at_first (byte_at s 0) refl
     at_first : (o : Option ℕ) → byte_at s 0 ≡ o → Taken s short_widths kind 0 (option_and_then (λ first. option_and_then (λ second. option_and_then (λ third. option_and_then (λ value. found_fields kind first second third value (at_end s (behind_value s))) (four_at s (behind_third s))) (byte_at s (behind_second s))) (byte_at s (behind_first s))) o)
     at_first None e = none_first kind line (sym e)
     at_first (Some first) e = at_second first (sym e) (byte_at s (behind_first s)) refl
+
+-- the same, as the calls say it: each tells what it found and where the reader then stands
+module _ (kind : ℕ) (s : Bor (List ℕ)) where
+  told : (r : Option Fields) → r ≡ found kind s.now → Taken s.now short_widths kind 0 r
+  told r e = e ∙ short_finds kind s.now
+
+  pub told_no_first : None ≡ byte_at s.now 0 → Taken s.now short_widths kind 0 None
+  told_no_first e = told None (cc)
+
+  module _ (first : ℕ) (e₁ : Some first ≡ byte_at s.now 0) (c₁ : Reader) (g₁ : c₁ ≡ read_on 1 (record { src = s; at = 0 })) where
+    pub told_no_second : None ≡ byte_at c₁.src.now c₁.at → Taken s.now short_widths kind 0 None
+    told_no_second e = told None (cc)
+
+    module _ (second : ℕ) (e₂ : Some second ≡ byte_at c₁.src.now c₁.at) (c₂ : Reader) (g₂ : c₂ ≡ read_on 1 c₁) where
+      pub told_no_third : None ≡ byte_at c₂.src.now c₂.at → Taken s.now short_widths kind 0 None
+      told_no_third e = told None (cc)
+
+      module _ (third : ℕ) (e₃ : Some third ≡ byte_at c₂.src.now c₂.at) (c₃ : Reader) (g₃ : c₃ ≡ read_on 1 c₂) where
+        pub told_no_value : None ≡ four_at c₃.src.now c₃.at → Taken s.now short_widths kind 0 None
+        told_no_value e = told None (cc)
+
+        module _ (value : ℕ) (e₄ : Some value ≡ four_at c₃.src.now c₃.at) (c₄ : Reader) (g₄ : c₄ ≡ read_on 4 c₃) where
+          found_is : found kind s.now ≡ found_fields kind first second third value (at_end c₄.src.now c₄.at)
+          found_is =
+              let f₂ : Some second ≡ byte_at s.now (behind_first s.now) = cc in
+              let f₃ : Some third ≡ byte_at s.now (behind_second s.now) = cc in
+              let f₄ : Some value ≡ four_at s.now (behind_third s.now) = cc in
+              let f₅ : at_end c₄.src.now c₄.at ≡ at_end s.now (behind_value s.now) = cc in
+              rw (f₅, ← e₁, ← f₂, ← f₃, ← f₄) refl
+
+          pub told_other_type : (first ≡ kind → ⊥) → Taken s.now short_widths kind 0 None
+          told_other_type h = told None (rw (found_is, ne_eqb first kind h) refl)
+
+          pub told_not_ended : first ≡ kind → false ≡ at_end c₄.src.now c₄.at → Taken s.now short_widths kind 0 None
+          told_not_ended t e = told None (rw (found_is, eq-eqb first kind t, ← e) refl)
+
+          pub told_taken : first ≡ kind → true ≡ at_end c₄.src.now c₄.at → (x y z : ℕ) → x ≡ first → y ≡ second → z ≡ third
+              → Taken s.now short_widths kind 0 (Some (record { head = x ∷ y ∷ z ∷ value ∷ 0 ∷ 0 ∷ []; vector = replicate greatest_size 0 }))
+          told_taken t e x y z ex ey ez = told _ (rw (found_is, eq-eqb first kind t, ← e, ex, ey, ez) refl)

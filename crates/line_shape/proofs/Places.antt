@@ -1,6 +1,7 @@
 -- What four bytes at a place say, and where a reader stands once it has read on.
-use Rattle.std.proofs.Common.{◌≡◌, ℕ, ◌+◌, ◌-◌, ◌≤◌, ◌<◌, Bool, true, false, List, length, take, drop, Some, None, refl, ap, arith}
+use Rattle.std.proofs.Common.{◌≡◌, ℕ, ◌+◌, ◌-◌, ◌≤◌, ◌<◌, Bool, true, false, List, length, take, drop, Some, None, refl, ap, ◌∙◌, arith}
 use borrow.Author.Tests.{le-leb, lt-leb, ltb-false, ltb-true, leb-false, leb-true}
+use denote.Bor.{Bor}
 use lib.Dec.{leb, ltb}
 use lib.ListN.{get_or}
 use Rattle.std.proofs.lemmas.List.{length-drop, take_all}
@@ -38,6 +39,12 @@ module _ (width : ℕ) (s : List ℕ) (at : ℕ) where
 module _ (width : ℕ) (reader : Reader) where
   pub moves : reader.at + width ≤ length reader.src.now → ◌≡◌ {A = Reader} (record { src = reader.src; at = reader.at + width }) (read_on width reader)
   moves h = ap (λ (at : ℕ). record { src = reader.src; at = at }) (after_enough width reader.src.now reader.at h)
+
+  pub moved : (to : Reader) → reader.at + width ≤ length reader.src.now → to.src ≡ reader.src → to.at ≡ reader.at + width → to ≡ read_on width reader
+  moved to h e f = same to.src to.at e (f ∙ after_enough width reader.src.now reader.at h)
+    where
+      same : {at : ℕ} (s : Bor (List ℕ)) (n : ℕ) → s ≡ reader.src → n ≡ at → ◌≡◌ {A = Reader} (record { src = s; at = n }) (record { src = reader.src; at = at })
+      same s n e f = rw (e, f) refl
 
   pub stays : length reader.src.now < reader.at + width → reader ≡ read_on width reader
   stays h = ap (λ (at : ℕ). record { src = reader.src; at = at }) (after_few width reader.src.now reader.at h)

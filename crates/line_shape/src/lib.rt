@@ -35,6 +35,7 @@ pub struct Fields {
 }
 
 // The number that a few bytes say, most significant first.
+#[tactic(auto, using(crate::proofs::Counting::counting_done))]
 fn number_of(bytes: &[u8]) -> u32
     requires { length bytes.now ≤ widest }
     ensures { result ≡ number_of bytes.now }

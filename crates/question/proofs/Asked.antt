@@ -124,7 +124,7 @@ module _ (s : List ℕ) (K : Checked s) (object question value n : ℕ) (en : n 
   abbrev reply : Reply
   reply = ask t (length out) (asked_from object question value)
 
-  first_is : first_of (asked_refusals t.header (asked_from object question value)) ≡ refusal
+  pub first_is : first_of (asked_refusals t.header (asked_from object question value)) ≡ refusal
   first_is = rw (asked_by_kinds t.header (asked_from object question value), sym (kinds_part s n en)) (sym er)
 
   pub known_question : refusal ≡ 0 → question < 1 ⊎ 5 < question → ⊥
@@ -174,3 +174,7 @@ module _ (s : List ℕ) (K : Checked s) (object question value n : ℕ) (en : n 
     holds_replied q b e =
         let given : reply ≡ answered (holds ((by_rows t).in_at object value)) = is_passed ∙ rw q refl in
         ap (λ (there : Bool). (says.Holds there, out)) e ∙ sym (ap (λ (r : Reply). replied r out) given)
+
+-- what passes by the table's header passes by the kinds that stand in it
+pub passes : (s : List ℕ) → Checked s → (object question value : ℕ) → first_of (asked_refusals (table_of s).header (asked_from object question value)) ≡ 0 → 0 ≡ first_of (asked_refusals (header_of_kinds (take (7 + objects_in s - 7) (drop 7 s))) (asked_from object question value))
+passes s K object question value z = sym (sym (first_is s K object question value (objects_in s) refl _ refl []) ∙ z)

@@ -4,6 +4,7 @@
 ghost use Rattle.std.specs.Prelude.{◌≡◌, [], ◌∷◌, ◌<◌, length};
 ghost use Rattle.meaning.specs.Questions.{by_rows};
 ghost use Rattle.meaning.specs.Calls.{ask};
+ghost use Rattle.meaning.specs.Refusals.{asked_refusals, first_of};
 ghost use Rattle.words_layout.specs.Layout.{objects_in, table_of, total_words};
 ghost use Rattle.refusal_kind.specs.Asking.{asked_from};
 ghost use Rattle.table_rules.specs.Checked.{Checked};
@@ -79,6 +80,31 @@ fn list_reply(s: &[u32], object: u32, out: &mut [u32]) -> Result<Reply, Unanswer
     Ok(Reply::List(count))
 }
 
+// The answer to a question that passes 1, 3 and 12: 11, or what is asked.
+fn answer_passed(
+    s: &[u32],
+    object: u32,
+    question: u32,
+    value: Value,
+    out: &mut [u32],
+) -> Result<Reply, Unanswered>
+    requires table { Checked s.now }
+    requires passes { first_of (asked_refusals (table_of s.now).header (asked_from object question value.0)) ≡ 0 }
+    ensures { (told result, out.new) ≡ replied (ask (table_of s.now) (length out.old) (asked_from object question value.0)) out.old }
+{
+    match Asks::try_from(question) {
+        Ok(Asks::Total) => {
+            let total = total_of(s, object);
+            Ok(Reply::Total(total.0, total.1))
+        }
+        Ok(Asks::Flag) => Ok(Reply::Flag(question_list::is_in(s, object, Value(ON)))),
+        Ok(Asks::List) => list_reply(s, object, out),
+        Ok(Asks::Count) => Ok(Reply::Count(question_list::count_in(s, object))),
+        Ok(Asks::Holds) => Ok(Reply::Holds(question_list::is_in(s, object, value))),
+        Err(_) => unreachable!(),
+    }
+}
+
 // A question to a table: refusals 1, 3 and 12, then 11, or its answer.
 pub fn ask_table(
     s: &[u32],
@@ -91,16 +117,8 @@ pub fn ask_table(
     ensures { (told result, out.new) ≡ replied (ask (table_of s.now) (length out.old) (asked_from object question value.0)) out.old }
 {
     let end = KINDS_AT + words_tags::wide(s[OBJECTS_AT]);
-    refusal_order::question_refusal(&s[KINDS_AT..end], object, question, value)?;
-    match Asks::try_from(question) {
-        Ok(Asks::Total) => {
-            let total = total_of(s, object);
-            Ok(Reply::Total(total.0, total.1))
-        }
-        Ok(Asks::Flag) => Ok(Reply::Flag(question_list::is_in(s, object, Value(ON)))),
-        Ok(Asks::List) => list_reply(s, object, out),
-        Ok(Asks::Count) => Ok(Reply::Count(question_list::count_in(s, object))),
-        Ok(Asks::Holds) => Ok(Reply::Holds(question_list::is_in(s, object, value))),
-        Err(_) => unreachable!(),
+    match refusal_order::question_refusal(&s[KINDS_AT..end], object, question, value) {
+        Ok(()) => answer_passed(s, object, question, value, out),
+        Err(refusal) => Err(Unanswered::Refused(refusal)),
     }
 }

@@ -7,7 +7,7 @@ ghost use Rattle.meaning.specs.Questions.{fits};
 ghost use Rattle.meaning.specs.Refusals.{well_asked};
 ghost use Rattle.table_kinds.specs.Kinds.{code_number, kind_number};
 ghost use Rattle.refusal_kind.specs.Asking.{asked_from};
-ghost use Rattle.refusal_kind.specs.Questions.{AsksOf};
+ghost use Rattle.refusal_kind.specs.Questions.{AsksOf, asks_number};
 
 use std::error::Error;
 use std::fmt;
@@ -26,6 +26,21 @@ pub enum Asks {
     List,
     Count,
     Holds,
+}
+
+impl Asks {
+    // The number that stands for the question.
+    pub fn number(self) -> u32
+        ensures { result ≡ asks_number self }
+    {
+        match self {
+            Asks::Total => 1,
+            Asks::Flag => 2,
+            Asks::List => 3,
+            Asks::Count => 4,
+            Asks::Holds => 5,
+        }
+    }
 }
 
 // A number that is no question's.

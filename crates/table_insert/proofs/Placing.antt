@@ -10,19 +10,11 @@ use lib.Seq.{paste, slice, length-take-le, drop-drop, take-take, take-append-le,
 use Rattle.meaning.specs.Rows.{lower_key}
 use Rattle.words_layout.specs.Words.{pieces, flat}
 use Rattle.words_layout.proofs.Pieces.{Wide, flat_pieces, length_flat, length_pieces, wide_pieces}
-use Rattle.std.specs.Cmp.Lexicographic.{slice_partial_cmp}
 use Rattle.std.specs.List.{AllWithin, HoldsAt}
 use Rattle.std.specs.Option.{MatchOption, unwrap_or}
-use Rattle.std.specs.Ordering.{nat_cmp, is_lt, is_some_and}
-use Rattle.std.specs.Prelude.{Option, Some}
-use Rattle.std.proofs.lemmas.Bool.Decides.{nat_tests}
-use Rattle.std.proofs.lemmas.Cmp.{same_from_slice_cmp_tested}
+use Rattle.std.specs.Prelude.{Option}
 use Rattle.std.proofs.lemmas.Iterator.{index_from_first}
 use Rattle.table_insert.specs.Placing.{inserted, passed}
-
--- the order of slices is the order of keys
-pub lower_by_slices : (xs ys : List ℕ) (r : Bool) → r ≡ is_some_and is_lt (slice_partial_cmp (λ x y. Some (nat_cmp x y)) xs ys) → r ≡ lower_key xs ys
-lower_by_slices = same_from_slice_cmp_tested nat_cmp is_lt lower_key refl (λ _ _. refl) (λ _ _. refl) (λ x y xs ys o h. grind (arith, nat_tests))
 
 -- the place is behind the rows passed, each as wide as the others
 length_passed : (key : List ℕ) (rows : List (List ℕ)) (r : Option ℕ)

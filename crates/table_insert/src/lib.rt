@@ -15,7 +15,12 @@ pub fn lower(key: &[u32], other: &[u32]) -> bool
     requires { length key.now ≡ length other.now }
     ensures { result ≡ lower_key key.now other.now }
 {
-    key < other
+    for i in 0..key.len() {
+        if key[i] != other[i] {
+            return key[i] < other[i];
+        }
+    }
+    false
 }
 
 // The place of the first row that the key is lower than.

@@ -26,6 +26,23 @@ pub enum Kind {
 }
 
 impl Kind {
+    // The number that stands for the kind in words.
+    pub fn number(self) -> u32
+        ensures { result ≡ kind_number self }
+    {
+        match self {
+            Kind::GrowCounter => 1,
+            Kind::UpDownCounter => 2,
+            Kind::GrowSet => 3,
+            Kind::TwoPhaseSet => 4,
+            Kind::EnableWinsFlag => 5,
+            Kind::DisableWinsFlag => 6,
+            Kind::MultiValueRegister => 7,
+            Kind::AddWinsSet => 8,
+            Kind::RemoveWinsSet => 9,
+        }
+    }
+
     // Counters' values are amounts, and they keep no rows.
     #[tactic(auto, unfolding(meaning::specs::Operations::is_counter))]
     pub fn is_counter(self) -> bool

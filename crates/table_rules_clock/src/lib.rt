@@ -71,11 +71,12 @@ pub fn each_total_ok(kinds: &[u32], totals: &[u32], bound: u64) -> bool
     requires { length kinds.now * 2 ≤ length totals.now }
     ensures { result ≡ every_at (total_kept_at bound kinds.now) 0 (pieces 2 (length kinds.now) totals.now) }
 {
-    let totals = totals[..kinds.len() * TOTAL_WORDS].chunks_exact(TOTAL_WORDS);
-    kinds
-        .iter()
-        .zip(totals)
-        .all(|(kind, words)| total_ok(*kind, code_of(words), bound))
+    let mut good = true;
+    for k in 0..kinds.len() {
+        let at = k * TOTAL_WORDS;
+        good &= total_ok(kinds[k], code_of(&totals[at..at + TOTAL_WORDS]), bound);
+    }
+    good
 }
 
 // Whether one station's vector of the last frame accepted is what the clock allows.
@@ -97,12 +98,11 @@ pub fn each_last_ok(lasts: &[u32], clock: &[u32], own: Station) -> bool
     ensures { result ≡ every_at (last_kept own.0 clock.now) 0 (pieces (length clock.now) (length clock.now) lasts.now) }
 {
     let size = clock.len();
+    let mut good = true;
     for station in 0..size {
         let start = station * size;
         let last = &lasts[start..start + size];
-        if !last_ok(last, clock, Station(station as u32), own) {
-            return false;
-        }
+        good &= last_ok(last, clock, Station(station as u32), own);
     }
-    true
+    good
 }

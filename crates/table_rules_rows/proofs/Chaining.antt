@@ -1,23 +1,13 @@
 -- Each row and the next.
-use Prim.Native.Nat.{ℕ, zero, suc, ◌+◌, ◌≤◌, ◌<◌}
-use mathlib.Core.Path.{ap₂, ◌≡◌, refl, sym, ap, ◌∙◌}
-use mathlib.Core.Bool.{Bool, true, false, not, ◌&&◌}
-use mathlib.Core.List.{List, [], ◌∷◌}
+use Prim.Native.Nat.{ℕ, zero, suc, ◌+◌, ◌-◌, ◌*◌, ◌≤◌, ◌<◌}
+use mathlib.Core.Path.{◌≡◌, refl, sym, ap, ◌∙◌}
+use mathlib.Core.Bool.{Bool, true, false, not, ◌&&◌, and-true}
+use mathlib.Core.List.{List}
+use native.Mathlib.Nat.{suc-mul}
 use lib.Dec.{eqb}
-use Rattle.std.specs.List.{zip}
-use Rattle.std.specs.Iterator.Adapters.{zip_first, zip_second, skip_source, skip_count, skip_steps}
-use Rattle.std.specs.Slice.Iter.{chunks_exact_steps}
-use Rattle.std.specs.declared.iter.Skip.{Skip}
-use Rattle.std.specs.declared.iter.Zip.{Zip}
-use Rattle.std.specs.declared.slice.ChunksExact.{ChunksExact}
-use Rattle.std.proofs.lemmas.Iterator.{YieldsList, YieldsList-from_zip, zips}
-use Rattle.std.proofs.lemmas.Iterator.Adapters.{YieldsList-from_skip}
-use Rattle.std.proofs.lemmas.Iterator.Consumers.{YieldsList-at}
-use Rattle.words_layout.proofs.Pieces.{Wide}
 use native.Mathlib.Omega.{arith}
 use lib.ListN.{length, get_or, take, drop}
 use lib.Seq.{drop-drop, take-take, take_all, get_or-take}
-use Rattle.meaning.specs.Tests.{every}
 use Rattle.meaning.specs.Order.{same}
 use Rattle.meaning.specs.Rows.{lower_key}
 use Rattle.words_layout.specs.Words.{pieces}
@@ -26,6 +16,7 @@ use borrow.Author.Tests.{ne_eqb}
 use Rattle.std.specs.Prelude.{Result}
 use Rattle.std.proofs.Common.{Ok, Err, inl, inr}
 use Rattle.std.specs.Result.{result_eq}
+use Rattle.table_rules_rows.proofs.Scanning.{and_assoc}
 use Rattle.table_kinds.specs.Kinds.{KindOf, kind_number}
 use Rattle.table_kinds.specs.contracts.KindPartialEq.TheImpl.{eq-value}
 use Rattle.table_kinds.specs.declared.UnknownKind.{UnknownKind}
@@ -70,37 +61,43 @@ unfolding follows
 by_keys kinds x y w h =
     rw (get_or-take 7 y 0 0 (omega arith), get_or-take w y 0 0 (omega arith), take-take 3 7 x (omega arith), take-take 3 7 y (omega arith), take-take 7 7 x (omega arith), take-take 7 7 y (omega arith), take-take 3 w x (omega arith), take-take 3 w y (omega arith), take-take 7 w x h, take-take 7 w y h) refl
 
--- the same of rows of one width
-rows_by_keys : (kinds x y : List ℕ) (w : ℕ) → 7 ≤ w → length x ≡ w → length y ≡ w → follows kinds (take 7 x) (take 7 y) ≡ follows kinds x y
-rows_by_keys kinds x y w h p q = by_keys kinds x y w h ∙ rw (take_all w x (omega arith), take_all w y (omega arith)) refl
+-- k rows are passed, and the last of these is the one to compare the next with
+pub record Chaining (test : List ℕ → List ℕ → Bool) (w count : ℕ) (s : List ℕ) (good : Bool) (k : ℕ) : Type 0 where
+  pub some : 1 ≤ k
+  pub room : count * w ≤ length s
+  pub whole : (good && chained test (pieces w (count - (k - 1)) (drop ((k - 1) * w) s))) ≡ chained test (pieces w count s)
 
--- each with the next is each pair of the rows and those behind the first
-pub chained_pairs : (kinds : List ℕ) (w : ℕ) (rows : List (List ℕ)) → 7 ≤ w → Wide w rows → every (λ p. follows kinds (take 7 p.0) (take 7 p.1)) (zip rows (drop 1 rows)) ≡ chained (follows kinds) rows
-chained_pairs kinds w [] h wide = refl
-chained_pairs kinds w (x ∷ []) h wide = refl
-chained_pairs kinds w (x ∷ y ∷ rows) h wide = ap₂ (λ a b. a && b) (rows_by_keys kinds x y w h wide.0 wide.1.0) (chained_pairs kinds w (y ∷ rows) h wide.1)
+pub chain_start : (test : List ℕ → List ℕ → Bool) (w count : ℕ) (s : List ℕ) → count * w ≤ length s → Chaining test w count s true 1
+chain_start test w count s h = let z : count - 0 ≡ count = omega arith in let front : (1 - 1) * w ≡ 0 = omega arith in record { some = omega arith; room = h; whole = rw (z, front) refl }
 
--- both rows of a pair are as wide
-pub pair_wide : (w : ℕ) (xs ys : List (List ℕ)) (k : ℕ) (p : List ℕ × List ℕ) → Wide w xs → Wide w ys → k < length (zip xs ys) → p ≡ get_or (zip xs ys) k p → (length p.0 ≡ w) × (length p.1 ≡ w)
-pair_wide w xs ys k p a b h e = let there = pairs w xs ys k p a b h in (ap (λ q. length q.0) e ∙ there.0, ap (λ q. length q.1) e ∙ there.1)
-  where
-    pairs : (w : ℕ) (xs ys : List (List ℕ)) (k : ℕ) (d : List ℕ × List ℕ) → Wide w xs → Wide w ys → k < length (zip xs ys) → (length (get_or (zip xs ys) k d).0 ≡ w) × (length (get_or (zip xs ys) k d).1 ≡ w)
-    pairs w [] ys k d a b h = absurd (omega arith)
-    pairs w (x ∷ xs) [] k d a b h = absurd (omega arith)
-    pairs w (x ∷ xs) (y ∷ ys) zero d a b h = (a.0, b.0)
-    pairs w (x ∷ xs) (y ∷ ys) (suc k) d a b h = pairs w xs ys k d a.1 b.1 (omega arith)
+at_most_one : (test : List ℕ → List ℕ → Bool) (w more : ℕ) (s : List ℕ) → more ≤ 1 → chained test (pieces w more s) ≡ true
+at_most_one test w zero s h = refl
+at_most_one test w (suc zero) s h = refl
+at_most_one test w (suc (suc m)) s h = absurd (omega arith)
 
-pub wide_behind : (w : ℕ) (rows : List (List ℕ)) → Wide w rows → Wide w (drop 1 rows)
-wide_behind w [] h = tt
-wide_behind w (x ∷ rows) h = h.1
-
--- each row with the next, as a chain of iterators gives them
-pub YieldsList-from_next : {s : Zip (ChunksExact ℕ) (Skip (ChunksExact ℕ))} {a b : ChunksExact ℕ} {t : Skip (ChunksExact ℕ)} (w count : ℕ) (words : List ℕ) → zip_first s ≡ a → zip_second s ≡ t → skip_source t ≡ b → skip_count t ≡ 1
-    → YieldsList chunks_exact_steps (λ x. x.now) a (pieces w count words) → YieldsList chunks_exact_steps (λ x. x.now) b (pieces w count words)
-    → YieldsList (zips chunks_exact_steps (skip_steps chunks_exact_steps)) (λ p. (p.0.now, p.1.now)) s (zip (pieces w count words) (drop 1 (pieces w count words)))
-YieldsList-from_next w count words first second source one rows others =
-    YieldsList-from_zip (YieldsList-at first rows) (YieldsList-at second (YieldsList-from_skip 1 (YieldsList-at source others) one))
+pub chain_done : (test : List ℕ → List ℕ → Bool) (w count : ℕ) (s : List ℕ) (good : Bool) (k : ℕ) → Chaining test w count s good k → count ≤ k → good ≡ chained test (pieces w count s)
+chain_done test w count s good k C h = sym (and-true good) ∙ ap (λ (b : Bool). good && b) (sym (at_most_one test w (count - (k - 1)) (drop ((k - 1) * w) s) (omega (arith, C.some)))) ∙ C.whole
 
 -- The first two of more rows, and what is left of the chain behind them.
 pub two_ahead : (test : List ℕ → List ℕ → Bool) (w m at : ℕ) (s : List ℕ) → chained test (pieces w (suc (suc m)) (drop at s)) ≡ (test (take w (drop at s)) (take w (drop (at + w) s)) && chained test (pieces w (suc m) (drop (at + w) s)))
 two_ahead test w m at s = ap (λ (behind : List ℕ). test (take w (drop at s)) (take w behind) && chained test (pieces w (suc m) behind)) (drop-drop w at s)
+
+module _ (kinds : List ℕ) (w count : ℕ) (s : List ℕ) (good : Bool) (k : ℕ) (C : Chaining (follows kinds) w count s good k) (h : k < count) (wide : 7 ≤ w) where
+  next_place : k * w ≡ (k - 1) * w + w
+  next_place = let n : k ≡ suc (k - 1) = omega (arith, C.some) in ap (λ (n : ℕ). n * w) n ∙ suc-mul (k - 1) w
+
+  pub chain_noted : (at : ℕ) → at ≡ k * w - w → (r : Bool) → r ≡ follows kinds (take (at + 7 - at) (drop at s)) (take (k * w + 7 - k * w) (drop (k * w) s)) → Chaining (follows kinds) w count s (good && r) (k + 1)
+  chain_noted at p r e =
+      let here : at ≡ (k - 1) * w = omega (arith, p, next_place) in
+      let a : at + 7 - at ≡ 7 = omega arith in
+      let b : k * w + 7 - k * w ≡ 7 = omega arith in
+      let same : r ≡ follows kinds (take w (drop ((k - 1) * w) s)) (take w (drop ((k - 1) * w + w) s)) = ((rw (a, b) at e) ∙ by_keys kinds (drop at s) (drop (k * w) s) w wide) ∙ rw (here, next_place) refl in
+      let more : count - (k - 1) ≡ suc (suc (count - k - 1)) = omega (arith, C.some) in
+      let rest : count - (k + 1 - 1) ≡ suc (count - k - 1) = omega arith in
+      let passed : (k + 1 - 1) * w ≡ (k - 1) * w + w = ap (λ (n : ℕ). n * w) (omega arith) ∙ next_place in
+      let last = chained (follows kinds) (pieces w (suc (count - k - 1)) (drop ((k - 1) * w + w) s)) in
+      record {
+        some = omega arith;
+        room = C.room;
+        whole = rw (rest, passed) (and_assoc good r last ∙ ap (λ (b : Bool). good && b) (rw same refl ∙ sym (ap (λ (m : ℕ). chained (follows kinds) (pieces w m (drop ((k - 1) * w) s))) more ∙ two_ahead (follows kinds) w (count - k - 1) ((k - 1) * w) s)) ∙ C.whole);
+      }

@@ -97,14 +97,17 @@ pub fn row_ok(row: &[u32], kinds: &[u32], clock: &[u32]) -> bool
     content_ok(kind, row) && tag_ok(kind, row, clock)
 }
 
-// Whether every row keeps the rules that ask nothing of other rows.
+// Whether every row keeps the rules that ask nothing of other rows, with a fault noted as in `every`.
 fn each_ok(rows: &[u32], width: usize, count: RowCount, kinds: &[u32], clock: &[u32]) -> bool
     requires { (count.0 * width ≤ length rows.now) × (width ≡ row_width (length clock.now)) }
     ensures { result ≡ every (row_kept kinds.now clock.now) (pieces width count.0 rows.now) }
 {
-    rows[..words_tags::wide(count.0) * width]
-        .chunks_exact(width)
-        .all(|row| row_ok(row, kinds, clock))
+    let mut good = true;
+    for k in 0..count.0 {
+        let at = words_tags::wide(k) * width;
+        good &= row_ok(&rows[at..at + width], kinds, clock);
+    }
+    good
 }
 
 // Whether two rows are of the same object and value.
@@ -130,10 +133,13 @@ fn in_order(rows: &[u32], width: usize, count: RowCount, kinds: &[u32]) -> bool
     requires { (count.0 * width ≤ length rows.now) × (key_words ≤ width) }
     ensures { result ≡ chained (follows kinds.now) (pieces width count.0 rows.now) }
 {
-    let rows = &rows[..words_tags::wide(count.0) * width];
-    rows.chunks_exact(width)
-        .zip(rows.chunks_exact(width).skip(1))
-        .all(|(before, row)| may_follow(&before[..KEY], &row[..KEY], kinds))
+    let mut good = true;
+    for k in 1..count.0 {
+        let next = words_tags::wide(k) * width;
+        let at = next - width;
+        good &= may_follow(&rows[at..at + KEY], &rows[next..next + KEY], kinds);
+    }
+    good
 }
 
 // Whether the rows keep all the rules of rows.

@@ -1,11 +1,9 @@
 -- Exactly one of the four relations holds, and tests at most, one each way, tell which.
-use mathlib.Core.Path.{◌≡◌, refl, sym, ap, ◌∙◌}
+use mathlib.Core.Path.{◌≡◌, refl, sym}
 use mathlib.Core.Bool.{true, false, not, ◌&&◌}
 use Rattle.meaning.specs.Order.{Vector, at_most, same, before_by_vector, concurrent_by_vector}
 use Rattle.meaning.proofs.Tests.{cases, clash, fails, and_left, and_right, not_holds}
 use Rattle.meaning.proofs.Vectors.{before_by, before_not, before_irreflexive, at_most_antisym, at_most_refl, not_before, same_eq, eq_same}
-use denote.Enum.Bare.{sameb}
-use Rattle.words_tags.specs.contracts.Relation.{the_type}
 use Rattle.words_tags.specs.declared.Relation.{Relation}
 use Rattle.words_tags.specs.declared.Relation.TheVariants.{Before, After, Same, Concurrent}
 use Rattle.words_tags.specs.Relations.{says_of, relation_of}
@@ -65,14 +63,11 @@ module _ (u t : Vector) where
       no_second_relation Concurrent
       (rw (not_before u t (sym p), not_before t u (sym q), fails (same u t) (λ s. clash (at_most u t) (rw (same_eq u t s) (at_most_refl t)) (sym p))) refl)
 
--- whether a relation is the first, as a comparison of enums says it
-pub tells_before : (u t : Vector) (r : Relation) → r ≡ relation_of u t → sameb the_type r Before ≡ before_by_vector u t
-unfolding says_of relation_of
-tells_before u t r e = ap (λ s. sameb the_type s Before) e ∙ told
-  where
-    told : sameb the_type (relation_of u t) Before ≡ before_by_vector u t
-    told =
-        cases (before_by_vector u t) (λ p. rw p refl)
-        (λ p. rw p (cases (before_by_vector t u) (λ q. rw q refl)
-        (λ q. rw q (cases (same u t) (λ s. rw s refl)
-        (λ s. rw s refl)))))
+  -- whether it is the first
+  pub told_before : relation_of u t ≡ Before → before_by_vector u t ≡ true
+  unfolding says_of
+  told_before e = relation_says Before (sym e)
+
+  pub before_told : before_by_vector u t ≡ true → relation_of u t ≡ Before
+  unfolding says_of
+  before_told h = sym (no_second_relation Before h)

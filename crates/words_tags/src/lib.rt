@@ -52,11 +52,12 @@ pub fn every<T, F: Fn(&T) -> bool>(items: &[T], test: F) -> bool
     items.iter().fold(true, |good, item| good & test(item))
 }
 
-// Whether every entry of u is at most t's, in one pass like that of `every`.
+// Whether every entry of u is at most t's, in one pass like that of `every`. As t is cut to u's length, one count ends the pass.
 pub fn at_most(u: &[u32], t: &[u32]) -> bool
     requires { length u.now ≡ length t.now }
     ensures { result ≡ at_most u.now t.now }
 {
+    let t = &t[..u.len()];
     u.iter()
         .zip(t)
         .fold(true, |good, (entry, other)| good & (entry <= other))
@@ -75,6 +76,7 @@ fn at_most_both_ways(u: &[u32], t: &[u32]) -> (bool, bool)
     requires { length u.now ≡ length t.now }
     ensures { (result.0 ≡ at_most u.now t.now) × (result.1 ≡ at_most t.now u.now) }
 {
+    let t = &t[..u.len()];
     u.iter()
         .zip(t)
         .fold((true, true), |(below, above), (entry, other)| {
@@ -101,7 +103,7 @@ pub fn before(u: &[u32], t: &[u32]) -> bool
     requires { length u.now ≡ length t.now }
     ensures { result ≡ before_by_vector u.now t.now }
 {
-    compare(u, t) == Relation::Before
+    matches!(compare(u, t), Relation::Before)
 }
 
 // Lessens low, where it stands, to the entrywise least of itself and t.

@@ -11,10 +11,8 @@ returns-in_err-issue_number c =
 pub next_vector-vector-requires : goal.next_vector-vector-requires
 next_vector-vector-requires c = (search rules, search (issue_rises, c.in_ok-issue_number.ensures))
 
-pub returns-in_err-characters : goal.returns-in_err-characters
-returns-in_err-characters c =
-    let p = err_from_is_err_and c.from_residual-in_err-characters.result c.from_residual-in_err-characters.ensures.1 in
-    rw (p.1, p.2) (issue_short _ _ c.requires _ c.in_ok-issue_number.ensures _ c.wide-size.ensures.0 _ c.next_vector-vector.ensures _ c.in_err-characters.field-0.0 c.in_err-characters.ensures)
+pub returns-in-Ok : goal.returns-in-Ok
+returns-in-Ok c = issue_framed _ _ c.requires _ c.in_ok-issue_number.ensures _ c.wide-size.ensures.0 _ c.next_vector-vector.ensures _ _ _ c.in-Ok.ensures c.take_local.ensures
 
-pub returns : goal.returns
-returns c = issue_framed _ _ c.requires _ c.in_ok-issue_number.ensures _ c.wide-size.ensures.0 _ c.next_vector-vector.ensures _ _ _ c.in_ok-characters.ensures c.take_local.ensures
+pub returns-in-Err : goal.returns-in-Err
+returns-in-Err c = rw c.from.ensures (issue_short _ _ c.requires _ c.in_ok-issue_number.ensures _ c.wide-size.ensures.0 _ c.next_vector-vector.ensures _ _ c.in-Err.ensures)

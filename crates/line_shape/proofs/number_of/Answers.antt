@@ -1,5 +1,5 @@
 use Rattle.std.proofs.Common.{arith}
-use Rattle.line_shape.proofs.Counting.{counting_start, counting_shift, counting_add, counting_turn, counting_done}
+use Rattle.line_shape.proofs.Counting.{counting_start, counting_shift, counting_add, counting_turn}
 use Rattle.line_shape.proofs.number_of.Goals as goal
 
 pub loop-byte-init : goal.loop-byte-init
@@ -13,6 +13,3 @@ overflow_add-number c = counting_add _ _ _ c.loop-byte.invariant _ (omega (arith
 
 pub loop-byte-preserved : goal.loop-byte-preserved
 loop-byte-preserved c = counting_turn _ _ _ c.loop-byte.invariant _ (omega (arith, c.type_inv.bytes c.loop-byte.byte-index)) c.loop-byte-test.true c.from.ensures
-
-pub returns : goal.returns
-returns c = search counting_done

@@ -1,13 +1,12 @@
 use Rattle.std.proofs.Common.{arith}
 use Rattle.std.proofs.lemmas.Bool.Decides.{nat_tests}
-use Rattle.words_layout.specs.Words.{complement, of_complement}
-use Rattle.table_change.specs.TotalChange.{change}
+use Rattle.table_change.proofs.Wrapping.{increased_is, decreased_is}
 use Rattle.table_change.proofs.changed.Goals as goal
 
 pub returns-then-increase : goal.returns-then-increase
-unfolding complement of_complement change
-returns-then-increase c = grind (arith, nat_tests)
+returns-then-increase c =
+    increased_is _ _ _ _ _ (omega arith) (omega arith) (omega arith) (omega arith) (omega arith) _ c.if-increase.true (omega arith)
 
 pub returns-else-increase : goal.returns-else-increase
-unfolding complement of_complement change
-returns-else-increase c = grind (arith, nat_tests)
+returns-else-increase c =
+    decreased_is _ _ _ _ _ (omega arith) (omega arith) (omega arith) (omega arith) (omega arith) _ c.if-increase.false (grind (arith, nat_tests))
