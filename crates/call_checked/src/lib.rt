@@ -92,7 +92,7 @@ fn issue_read(space: &mut [u32], f: line_read::Issue, out: &mut [u8]) -> Result<
             arrival_local::take_local(space, f.object, f.code, Value(f.value));
             Ok(characters)
         }
-        Err(short) => Err(Refusal::from(short)),
+        Err(_) => Err(Refusal::NoRoom),
     }
 }
 

@@ -23,6 +23,6 @@ pub fn save_checked(
     }
     match form_write::write_line(space, k, out) {
         Ok(there) => Ok(there),
-        Err(short) => Err(Refusal::from(short)),
+        Err(_) => Err(Refusal::NoRoom),
     }
 }

@@ -15,4 +15,4 @@ pub returns-in-Ok : goal.returns-in-Ok
 returns-in-Ok c = issue_framed _ _ c.requires _ c.in_ok-issue_number.ensures _ c.wide-size.ensures.0 _ c.next_vector-vector.ensures _ _ _ c.in-Ok.ensures c.take_local.ensures
 
 pub returns-in-Err : goal.returns-in-Err
-returns-in-Err c = rw c.from.ensures (issue_short _ _ c.requires _ c.in_ok-issue_number.ensures _ c.wide-size.ensures.0 _ c.next_vector-vector.ensures _ _ c.in-Err.ensures)
+returns-in-Err c = issue_short _ _ c.requires _ c.in_ok-issue_number.ensures _ c.wide-size.ensures.0 _ c.next_vector-vector.ensures _ _ c.in-Err.ensures

@@ -8,4 +8,4 @@ pub returns-in-Ok : goal.returns-in-Ok
 returns-in-Ok c = save_told _ _ _ _ _ c.printing.ensures c.if-not-printing.false _ _ c.in-Ok.ensures
 
 pub returns-in-Err : goal.returns-in-Err
-returns-in-Err c = rw c.from.ensures (save_short _ _ _ _ _ c.printing.ensures c.if-not-printing.false _ _ c.in-Err.ensures)
+returns-in-Err c = save_short _ _ _ _ _ c.printing.ensures c.if-not-printing.false _ _ c.in-Err.ensures
