@@ -38,17 +38,17 @@ module _ (words : List ℕ) (before : Judged) where
   unfolding judged_by
   open_judged line e l x p r q = ap (λ (v : Judged). (v, x)) q ∙ ap (λ (v : Result Loaded ℕ × List ℕ). (judged_as v.0, v.1)) p ∙ sym (ap (λ (v : Judged). judged_by line (v, words)) e)
 
-  pub closed_judged : (line : List ℕ) → before ≡ judged.Closed → (judged.Refused 15, words) ≡ judged_by line (before, words)
+  pub closed_judged : (line : List ℕ) → before ≡ judged.Closed → (wrong : ℕ) → wrong ≡ 15 → (judged.Refused wrong, words) ≡ judged_by line (before, words)
   unfolding judged_by
-  closed_judged line e = sym (ap (λ (v : Judged). judged_by line (v, words)) e)
+  closed_judged line e wrong w = ap (λ (n : ℕ). (judged.Refused n, words)) w ∙ sym (ap (λ (v : Judged). judged_by line (v, words)) e)
 
   pub refused_judged : (line : List ℕ) (number : ℕ) → before ≡ judged.Refused number → (judged.Refused number, words) ≡ judged_by line (before, words)
   unfolding judged_by
   refused_judged line number e = sym (ap (λ (v : Judged). judged_by line (v, words)) e)
 
-  pub open_ended : before ≡ judged.Open → (l : Result Loaded ℕ) (x : List ℕ) → (l, x) ≡ load_ended words → (judged.Refused 15, x) ≡ judged_end (before, words)
+  pub open_ended : before ≡ judged.Open → (l : Result Loaded ℕ) (x : List ℕ) → (l, x) ≡ load_ended words → (wrong : ℕ) → wrong ≡ 15 → (judged.Refused wrong, x) ≡ judged_end (before, words)
   unfolding judged_end
-  open_ended e l x p = ap (λ (v : Result Loaded ℕ × List ℕ). (judged.Refused 15, v.1)) p ∙ sym (ap (λ (v : Judged). judged_end (v, words)) e)
+  open_ended e l x p wrong w = ap (λ (n : ℕ). (judged.Refused n, x)) w ∙ ap (λ (v : Result Loaded ℕ × List ℕ). (judged.Refused 15, v.1)) p ∙ sym (ap (λ (v : Judged). judged_end (v, words)) e)
 
   pub closed_ended : before ≡ judged.Closed → (judged.Closed, words) ≡ judged_end (before, words)
   unfolding judged_end

@@ -20,12 +20,12 @@ refusal_in (Err (no.TooLong needed)) = Wrong
 
 number_in : Told → ℕ
 number_in (says.Refused number) = number
-number_in (says.TooLong needed) = 15
-number_in (says.Total high low) = 15
-number_in (says.Flag on) = 15
-number_in (says.List length) = 15
-number_in (says.Count number) = 15
-number_in (says.Holds there) = 15
+number_in (says.TooLong needed) = number_of Wrong
+number_in (says.Total high low) = number_of Wrong
+number_in (says.Flag on) = number_of Wrong
+number_in (says.List length) = number_of Wrong
+number_in (says.Count number) = number_of Wrong
+number_in (says.Holds there) = number_of Wrong
 
 number_read : (a : Result Reply Unanswered) → number_in (told a) ≡ number_of (refusal_in a)
 unfolding number_in refusal_in

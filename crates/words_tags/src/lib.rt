@@ -63,12 +63,15 @@ pub fn at_most(u: &[u32], t: &[u32]) -> bool
         .fold(true, |good, (entry, other)| good & (entry <= other))
 }
 
-// Whether the entries are the same.
+// Whether the entries are the same, in one such pass.
 pub fn same(u: &[u32], t: &[u32]) -> bool
     requires { length u.now ≡ length t.now }
     ensures { result ≡ same u.now t.now }
 {
-    u == t
+    let t = &t[..u.len()];
+    u.iter()
+        .zip(t)
+        .fold(true, |good, (entry, other)| good & (entry == other))
 }
 
 // Whether u is at most t, and t at most u, in one such pass.

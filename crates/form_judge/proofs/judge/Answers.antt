@@ -5,7 +5,7 @@ pub returns-in-Open : goal.returns-in-Open
 returns-in-Open c = search open_judged
 
 pub returns-in-Closed : goal.returns-in-Closed
-returns-in-Closed c = rw c.number.ensures (search closed_judged)
+returns-in-Closed c = search closed_judged
 
 pub returns-in-Refused : goal.returns-in-Refused
 returns-in-Refused c = search refused_judged
