@@ -6,7 +6,7 @@ pub loop-i-init : goal.loop-i-init
 loop-i-init c = search start
 
 pub loop-i-preserved : goal.loop-i-preserved
-loop-i-preserved c = turn _ _ _ _ c.loop-i.invariant (omega arith) _ cc
+loop-i-preserved c = turn _ _ _ _ c.loop-i.invariant (omega arith) _ (omega arith)
 
 pub returns : goal.returns
 returns c = done _ _ _ _ c.loop-i.invariant (omega arith)
