@@ -5,10 +5,10 @@ use mathlib.Core.List.{[], ◌∷◌}
 use Prim.Native.Nat.{ℕ, suc, ◌+◌, ◌≤◌, ◌<◌}
 use native.Mathlib.Numerals.{add-one}
 use native.Mathlib.Omega.{arith}
-use lib.Dec.{leb}
+use lib.Dec.{eqb, leb}
 use lib.ListN.{length, get_or, drop, drop_of_length-le}
 use lib.Seq.{drop-cons}
-use Rattle.meaning.specs.Order.{Vector, at_most}
+use Rattle.meaning.specs.Order.{Vector, at_most, same}
 
 -- a test of two vectors of one length that holds when a test of two entries holds at every place
 pub record ByPairs (test : Vector → Vector → Bool) (pair : ℕ → ℕ → Bool) : Type 0 where
@@ -17,6 +17,13 @@ pub record ByPairs (test : Vector → Vector → Bool) (pair : ℕ → ℕ → B
 
 pub at_most_by_pairs : ByPairs at_most leb
 at_most_by_pairs = record { at_end_lem = refl; at_pair = λ x y u t. refl }
+
+-- at most, asked the other way round
+pub at_least_by_pairs : ByPairs (λ u t. at_most t u) (λ x y. leb y x)
+at_least_by_pairs = record { at_end_lem = refl; at_pair = λ x y u t. refl }
+
+pub same_by_pairs : ByPairs same eqb
+same_by_pairs = record { at_end_lem = refl; at_pair = λ x y u t. refl }
 
 -- i pairs are passed: what was noted and the test of the rest make the test of the whole
 pub record Passed (test : Vector → Vector → Bool) (u t : Vector) (good : Bool) (i : ℕ) : Type 0 where
